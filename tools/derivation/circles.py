@@ -2,8 +2,7 @@
 
 from typing import Dict, Iterator, List, Optional, Tuple
 
-from . import recursive_holders as holders
-from . import recursive_refusals as refusals
+from .recursive import holders, refusals
 from .endless import check_ends
 from .model import Declaration, Refused, Type
 

@@ -6,8 +6,8 @@ from typing import Dict, List, Tuple
 
 from . import files, read
 from .model import MARK, Module, Refused
-from .recursive_refusals import MOST_BY_NAME
-from .recursive_refusals import MOST_FIELDS as MOST_OF_RECURSIVE
+from .recursive.refusals import MOST_BY_NAME
+from .recursive.refusals import MOST_FIELDS as MOST_OF_RECURSIVE
 
 HELP = f"""Writes what archives your types.
 

@@ -16,7 +16,7 @@ from .model import Declaration, Field, Module, Refused, Type
 from .names import ALIASES, FLOATS, LIBRARY, PRIMITIVES, STD, STD_MODULES, Found, Source, World
 from .parse import Alias, Declared
 from .items import number_of
-from .recursive_refusals import MOST_BY_NAME
+from .recursive.refusals import MOST_BY_NAME
 
 # Of a struct, and of a variant.
 MOST_FIELDS = 32

@@ -7,7 +7,8 @@ end, or are too many"). Shapes have no names, so no two definitions clash.
 
 import re
 
-from . import generics, records, recursive, texts, variants
+from . import generics, records, texts, variants
+from .recursive import layers
 from .formats import USERS, Formats
 from .layout import use
 from .model import MARK
@@ -28,14 +29,14 @@ def proofs(module):
         if not declaration.as_tuple and not declaration.part_by_part:
             its = records if declaration.kind == "struct" else variants
             out.update(its.proofs(formats, declaration))
-    out.update(recursive.files(module))
+    out.update(layers.files(module))
     return out
 
 
 def form(declaration):
     """What writes the impls of a declaration."""
     if declaration.part_by_part:
-        return recursive.text
+        return layers.text
     if declaration.as_tuple:
         return generics.text
     return records.text if declaration.kind == "struct" else variants.text

@@ -1,10 +1,10 @@
 """Types that hold themselves behind boxes and vectors: what is known of such a declaration, and the files that are written for it."""
 
-from . import recursive_chains, recursive_code, recursive_proofs, recursive_specs
-from .formats import Formats, layout_of, snake
-from .model import Field, Type
-from .recursive_refusals import MOST_BY_NAME
-from .recursive_terms import Terms, element, has_elements, is_map
+from . import chains, code, proofs, specs
+from ..formats import Formats, layout_of, snake
+from ..model import Field, Type
+from .refusals import MOST_BY_NAME
+from .terms import Terms, element, has_elements, is_map
 
 WRITTEN = "Written by tools/derive: change the declaration, and run it again."
 
@@ -87,7 +87,7 @@ class Recursive:
         # types of other families in it: what they define is defined with it
         self.inner = self.terms.inner
         self.is_simple = self.is_alone and not self.inner
-        self.is_chain = not self.is_holder and not self.inner and recursive_chains.is_chain(declaration, self.terms.leads_back)
+        self.is_chain = not self.is_holder and not self.inner and chains.is_chain(declaration, self.terms.leads_back)
         # under which names the variants of layers, of a value and of its resolver are brought in
         several = sum(its.kind == "enum" for its in declaration.family) > 1
         self.layer, self.its, self.kept = "Layer", *(f"{word}{declaration.name}" if several else word for word in ("Its", "Kept"))
@@ -149,7 +149,7 @@ class Recursive:
         """Whether the elements of a vector are the first that lead to their type of the family by a shared pointer or by none: it is written under a key by a
         function that stands with them."""
         items = [run.args[0] for it in self.family.members for run in it.owners if has_elements(run) and it.is_written(run) and it.is_first_run(run)]
-        leads_to = recursive_code.member_behind
+        leads_to = code.member_behind
         first = next((other for other in items if self.terms.is_nullable(other) and self.terms.is_nullable(item) and leads_to(self, other).own is leads_to(self, item).own), None)
         return item is first
 
@@ -215,7 +215,7 @@ def nest_of(declaration):
 
 
 def text(formats, declaration):
-    return recursive_code.text(Family(formats, declaration).member(declaration))
+    return code.text(Family(formats, declaration).member(declaration))
 
 
 def files(module):
@@ -224,7 +224,7 @@ def files(module):
     for declaration in module.declarations:
         if declaration.part_by_part and declaration is declaration.family[0]:
             family = Family(formats, declaration)
-            out[f"specs/{family.name}Shape.antt"] = recursive_specs.shape(family)
-            out[f"specs/{family.name}Meaning.antt"] = recursive_specs.meaning(family)
-            out.update(recursive_proofs.files(family))
+            out[f"specs/{family.name}Shape.antt"] = specs.shape(family)
+            out[f"specs/{family.name}Meaning.antt"] = specs.meaning(family)
+            out.update(proofs.files(family))
     return out

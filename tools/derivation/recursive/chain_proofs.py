@@ -1,8 +1,8 @@
 """The proofs of an enum that goes by loops: what is written and read up to its boxes."""
 
-from . import recursive_proofs as proofs
-from .recursive_chains import opens
-from .recursive_reads import Reads
+from . import proofs
+from .chains import opens
+from .reads import Reads
 
 BUFFERS = ("buffer", "position", "length")
 

@@ -2,9 +2,9 @@
 
 from typing import List
 
-from .formats import has_shared
-from .model import Declaration, Refused, Type
-from .recursive_plain import LEAVES, has_boxed, is_shaped
+from ..formats import has_shared
+from ..model import Declaration, Refused, Type
+from .plain import LEAVES, has_boxed, is_shaped
 
 # What plain parts may be made of, which a recursive type has beside those that lead back to it.
 PLAIN = set(LEAVES) | {"String", "BoxStr", "NonZero", "Option", "Result", "Box", "BoxSlice", "Vec", "BTreeMap", "OwnedArray"}
@@ -208,7 +208,7 @@ def leads_back(it: Declaration, type: Type) -> bool:
 
 def is_inner(it: Declaration, type: Type) -> bool:
     """Whether what is recursive in a plain part is of other families, and written with what holds it."""
-    from .recursive_holders import is_part, shares
+    from .holders import is_part, shares
 
     return not shares(it) and is_part(it, type)
 

@@ -4,7 +4,7 @@ results, tuples, arrays, vectors, maps and boxes of these.
 A term is one at a value, which is a term itself.
 """
 
-from .formats import snake
+from ..formats import snake
 
 # Leaves: shape, what a value means, and the type that antt has for it.
 LEAVES = {

@@ -1,7 +1,7 @@
 """The answers on the functions that write and read back the sorted maps of recursive types."""
 
-from .recursive_maps import entries
-from .recursive_terms import element
+from .maps import entries
+from .terms import element
 
 LOOP = "loop-key"
 
@@ -13,7 +13,7 @@ def written(it, type, answers, steps):
 
 
 def entries_written(it, type, answers, steps_of):
-    from .recursive_proofs import functions_of, not_pushed
+    from .proofs import functions_of, not_pushed
 
     item, t = element(type), it.terms
     function = f"serialize_{entries(it, type)}"
@@ -71,7 +71,7 @@ def owner_written(it, type, answers):
 
 def read(it, type, answers):
     """The answers on a map, whose entries are read back as those of a vector are."""
-    from .recursive_proofs import ARGS, TOLD
+    from .proofs import ARGS, TOLD
 
     item, t = element(type), it.terms
     w, function = it.word(item), f"read_{it.word(type)}"

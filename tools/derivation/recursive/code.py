@@ -10,22 +10,23 @@ other have one, in which the toolchain puts enums before structs and each in the
 
 import re
 
-from . import records, recursive_lent, recursive_weak, variants
-from . import recursive_arrays as arrays
-from . import recursive_chains as chains
-from . import recursive_expressions as expressions
-from . import recursive_maps as maps
-from .common import chain, doc_lines, in_turn, infix, taken_apart
-from .common import kept_of as handed_on
-from .formats import snake
-from .model import Type
-from .recursive_expressions import EXPR
-from .recursive_hollow import boxed_slices, hollow_source, shared_at, shared_pointers
-from .recursive_plain import items_of
-from .recursive_reads import is_made, skips_none, word_of
-from .recursive_terms import is_map, is_run, stem
-from .layout import Generic, Group, call, flat, implementation, literal, pair, signature, statement
-from .long import nest
+from .. import records, variants
+from . import lent, weak
+from . import arrays
+from . import chains
+from . import expressions
+from . import maps
+from ..common import chain, doc_lines, in_turn, infix, taken_apart
+from ..common import kept_of as handed_on
+from ..formats import snake
+from ..model import Type
+from .expressions import EXPR
+from .hollow import boxed_slices, hollow_source, shared_at, shared_pointers
+from .plain import items_of
+from .reads import is_made, skips_none, word_of
+from .terms import is_map, is_run, stem
+from ..layout import Generic, Group, call, flat, implementation, literal, pair, signature, statement
+from ..long import nest
 
 SERIALIZED = """    ensures serialized {{ IfOk result (λ r. Serialized {D} {X} (⟦<{T} as Archive>⟧.keys {v}.now)
         (⟦<{T} as Archive>⟧.meaning {v}.now) ({flat})
@@ -49,7 +50,7 @@ READ_ROWS = """    requires {{ IsPartOf ⟦<{X} as ArchivePointee>⟧ part }}
 def text(it):
     bring(it)
     pieces = [types(it), pointee(it), "\n".join(row_format(it, type) for type in it.rows), "" if it.is_holder else stands_for(it), portable(it), view_of(it), resolver(it)]
-    pieces += [boxed_slices(it), recursive_weak.calls(it), shared_pointers(it), recursive_lent.text(it)]
+    pieces += [boxed_slices(it), weak.calls(it), shared_pointers(it), lent.text(it)]
     pieces += [arrays.calls(it), arrays.hollow_arrays(it, kept, hollow_source), archive(it)]
     if it.is_chain:
         chains.refuse_derived_drop(it.declaration)
@@ -433,7 +434,7 @@ def archive(it):
         kept_, taken = handed_on(it.formats, case.types), taken_apart(it.formats, case.types, 8)
         body = f"        let {it.resolver} {{ kept }} = resolver;\n{taken}" + "".join(statement(8, before, made, ";") for before, made in lines)
         if case.is_long:
-            body += recursive_lent.call(it, case, values, kept_, 8)
+            body += lent.call(it, case, values, kept_, 8)
         else:
             body += statement(8, "", Generic(f"resolve_named_record_{case.count}", rust + [it.archived], values + [kept_, "Place::new(pos, bytes)"]), "")
             it.formats.use("archive_core::recursive", f"resolve_named_record_{case.count}")
@@ -483,7 +484,7 @@ def resolve_arm(it, case):
     names = [name if not back or is_run(type) or is_map(type) or it.terms.is_member(type) else f"_{name}" for name, type, back in zip(case.names, case.types, case.leads_back)]
     kept_ = handed_on(it.formats, case.types)
     if case.is_long:
-        resolved = recursive_lent.call(it, case, values, kept_, 16)
+        resolved = lent.call(it, case, values, kept_, 16)
     else:
         it.formats.use("archive_core::recursive", f"resolve_named_case_{case.count}")
         resolved = statement(16, "", Generic(f"resolve_named_case_{case.count}", rust + [it.archived], [str(case.tag)] + values + [kept_, "Place::new(pos, bytes)"]), "")
@@ -1058,7 +1059,7 @@ def owner_reading(it, type):
     }}
 """
     elif type.name == "WeakShared":
-        body = recursive_weak.reading(it, type)
+        body = weak.reading(it, type)
     elif type.name == "Box":
         body = f"""    let view: Ref<'_, ArchivedBox<{inner}>> = Ref::at(part);
     let value = match read_{it.word(item)}(alloc, before_box(view).part(), {levels}deserializer) {{

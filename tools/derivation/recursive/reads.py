@@ -1,6 +1,6 @@
 """The names by which proofs know parts that are read one after another."""
 
-from .common import numbered
+from ..common import numbered
 
 
 def is_made(type):

@@ -6,16 +6,16 @@ a value, which is a term itself:
 `meaning(type, "a0", m)`, where `m` is the meaning of the type itself.
 """
 
-from . import recursive_arrays as arrays
-from . import recursive_weak
-from .formats import snake
-from .model import Type
-from .recursive_plain import Plain, inner_in, items_of, product
+from . import arrays
+from . import weak
+from ..formats import snake
+from ..model import Type
+from .plain import Plain, inner_in, items_of, product
 
 
 def stem(name):
     """What names of a type begin with: none of the library's that are brought in begin so."""
-    from .recursive_proofs import CITED
+    from .proofs import CITED
 
     own = snake(name)
     taken = any(it.startswith(f"{own}_") for names in [*PRELUDE.values(), *CITED.values()] for it in names.split())
@@ -204,10 +204,10 @@ class Terms:
         """What is said of a weak pointer: as of the shared one in it, or of nothing."""
         said = getattr(self, which)
         shared = Type("Shared", type.args)
-        if not recursive_weak.is_written_out(x):
+        if not weak.is_written_out(x):
             lemma = {"meaning": "weak_value", "keys": "option_keys"}[which]
             return f"({lemma} (λ s. {said(shared, 's', m)}) {x}.value)"
-        held = recursive_weak.held_in(x)
+        held = weak.held_in(x)
         return said(shared, held, m) if held else {"meaning": "null", "keys": "[]"}[which]
 
     def flat(self, type, x, r):
@@ -267,7 +267,7 @@ class Terms:
         if type.name == "Shared":
             return f"(rc_keyed {x}.key (one {self.shape(item)}) 0 _ _ {self.keyed(item, f'{x}.value.value')})"
         if type.name == "WeakShared":
-            held = recursive_weak.held_in(x)
+            held = weak.held_in(x)
             return self.keyed(Type("Shared", type.args), held) if held else "(weak_keyed {A = ⊥} (λ u. []) (λ u. null) (λ u. absurd u) None)"
         if type.name == "Box":
             return f"(box_keyed _ _ {self.keyed(item, f'{x}.value')})"
@@ -277,7 +277,7 @@ class Terms:
         if self.is_option(item):
             its = f"(held_options_keyed _ {self.said(item.args[0])} refl (λ e. {self.keyed(item, '(Some e)')}) {items})"
         elif self.is_weak(item):
-            its = f"(held_weaks_keyed _ {self.said(Type('Shared', item.args))} refl (λ e. {self.keyed(item, recursive_weak.written_out('(Some e)'))}) {items})"
+            its = f"(held_weaks_keyed _ {self.said(Type('Shared', item.args))} refl (λ e. {self.keyed(item, weak.written_out('(Some e)'))}) {items})"
         elif not self.is_member(item):
             its = f"(held_each_keyed _ {self.said(item)} (λ e. {self.keyed(item, 'e')}) {items})"
         else:
@@ -313,7 +313,7 @@ class Terms:
             inner = item.args[0]
             its = f"held_options_planned _ {self.said(inner)} {D} {self.shape(inner)} refl (λ e. {self.planned(item, '(Some e)', True)}) {items}"
         elif self.is_weak(item):
-            its = f"held_weaks_planned _ {self.said(Type('Shared', item.args))} {D} (one {self.shape(item.args[0])}) refl (λ e. {self.planned(item, recursive_weak.written_out('(Some e)'), True)}) {items}"
+            its = f"held_weaks_planned _ {self.said(Type('Shared', item.args))} {D} (one {self.shape(item.args[0])}) refl (λ e. {self.planned(item, weak.written_out('(Some e)'), True)}) {items}"
         elif not self.is_member(item):
             its = f"held_each_planned _ {self.said(item)} {D} {X} (λ e. {self.planned(item, 'e', True)}) {items}"
         if arrays.is_array(type) and held:
@@ -334,7 +334,7 @@ class Terms:
         if not held:
             k, m = (f"(λ s. {getattr(self, which)(shared, 's', self.own(which))})" for which in ("keys", "meaning"))
             return f"(weak_planned {head} {k} {m} (λ s. {self.planned(shared, 's', False)}) {x}.value)"
-        y = recursive_weak.held_in(x)
+        y = weak.held_in(x)
         if not y:
             return f"(weak_planned {{A = ⊥}} {head} (λ u. []) (λ u. null) (λ u. absurd u) None)"
         keys, meaning = self.held_two(shared, y)

@@ -1,14 +1,14 @@
 """The definitions that stand beside the modules of recursive types: what they look like, and what their values mean. A family has one file of each."""
 
-from . import recursive_arrays as arrays
-from . import recursive_chain_specs as chains
-from . import recursive_holders as holders
-from .formats import ALIGNS
-from .model import Type
-from .recursive_plain import has_boxed, items_of, product
-from .recursive_terms import around, brought, brought_owns, element, is_map, something, stem
-from .recursive_weak import SPOKEN as SPOKEN_OF_WEAK
-from .recursive_weak import held_in, option_of, vectors, written_out
+from . import arrays
+from . import chain_specs as chains
+from . import holders
+from ..formats import ALIGNS
+from ..model import Type
+from .plain import has_boxed, items_of, product
+from .terms import around, brought, brought_owns, element, is_map, something, stem
+from .weak import SPOKEN as SPOKEN_OF_WEAK
+from .weak import held_in, option_of, vectors, written_out
 
 
 def of_each(family, piece):

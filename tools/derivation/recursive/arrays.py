@@ -4,7 +4,7 @@ What the elements own is written as that of a vector's elements, and they are re
 read in the array's place is said by these alone. In antt an array is a list of any length: of one that isn't the type's own, the meaning has no plan.
 """
 
-from .recursive_refusals import leads_back
+from .refusals import leads_back
 
 
 def is_array(type):

@@ -4,7 +4,7 @@ A weak pointer is written as the shared one that it holds, and read back by the 
 shared pointer leads to. It is a record of an option, at which a layer that is mapped computes where the option is nothing or something.
 """
 
-from .recursive_refusals import leads_back
+from .refusals import leads_back
 
 
 def is_weak(declaration, type):

@@ -5,9 +5,9 @@ takes memory of the machine's stack for a block of bytes. They end before the bo
 of one type, since what it leads to has no length that any could be asked for.
 """
 
-from . import recursive_weak
-from .recursive_refusals import leads_back
-from .recursive_weak import weak_at
+from . import weak
+from .refusals import leads_back
+from .weak import weak_at
 
 
 def has_boxed_slice(declaration, type):
@@ -221,7 +221,7 @@ def hollow_region(f, name, archived):
 
 
 def weak_pointer(it, type):
-    return recursive_weak.hollow(it, type, hollow_region, hollow_source)
+    return weak.hollow(it, type, hollow_region, hollow_source)
 
 
 def option_pointer(it, type):

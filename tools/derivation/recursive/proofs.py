@@ -2,15 +2,15 @@
 
 import re
 
-from . import recursive_arrays as arrays
-from . import recursive_chain_proofs as chains
-from . import recursive_code, recursive_expressions, recursive_hollow, recursive_lent, recursive_map_proofs, recursive_weak
-from .common import numbered
-from .formats import snake
-from .recursive_holders import laid
-from .recursive_reads import Reads, skips_none
-from .recursive_specs import owns
-from .recursive_terms import brought, stem
+from . import arrays
+from . import chain_proofs as chains
+from . import code, expressions, hollow, lent, map_proofs, weak
+from ..common import numbered
+from ..formats import snake
+from .holders import laid
+from .reads import Reads, skips_none
+from .specs import owns
+from .terms import brought, stem
 
 # Lemmas and definitions that answers cite, by their modules.
 CITED = {
@@ -281,7 +281,7 @@ def writing(family):
             record_written(it, answers)
             continue
         for case in it.cases:
-            if not case.count or recursive_code.is_inline(case):
+            if not case.count or code.is_inline(case):
                 continue
             values = [f"c.args.{name}.now" for name in case.names]
             here = answers if any(case.leads_back) else Answers(family, f"serialize_{case.n}")
@@ -357,7 +357,7 @@ def each_written(it, item, answers):
     flat, belongs = (functions_of(it, which, item) for which in ("flat", "belongs"))
     steps = Element(it, item)
     if t.is_weak(item):
-        recursive_weak.bring(answers)
+        weak.bring(answers)
     state = "(g.S.Keys.state l.initial.serializer) (g.S.Keys.state l.serializer)"
     answers.invariant(
         each, f"invariant-{each}-loop-value",
@@ -374,7 +374,7 @@ def each_written(it, item, answers):
     if t.is_row(item):
         row_deeper(it, it.row(item), answers, each)
     if it.is_first_keyed(item):
-        keyed_written(it, recursive_code.member_behind(it, item), answers)
+        keyed_written(it, code.member_behind(it, item), answers)
     if t.is_option(item) or t.is_weak(item):
         option_kept(it, item, answers, each, steps, kept, at)
     elif t.is_shared(item):
@@ -475,7 +475,7 @@ SIMPLE = {f"{sign}{bits}" for sign in "ui" for bits in (8, 16, 32, 64, 128)} | {
 
 
 def map_written(it, type, answers):
-    recursive_map_proofs.written(it, type, answers, Entry)
+    map_proofs.written(it, type, answers, Entry)
 
 
 class Element:
@@ -539,13 +539,13 @@ class Element:
     def nullable(self, it, item):
         """Those of a weak pointer, or of an option of a shared one: what it leads to is written by a call."""
         self.by_call = ""
-        member = recursive_code.member_behind(it, item)
+        member = code.member_behind(it, item)
         D, X = it.terms.definitions(item), it.terms.shape(member)
         same = "let same : c.deref-inner.result.now ≡ c.in-Some.whole.value.value = grind (arith, common_steps) in rw (c.in-Some.is, ← same)"
         written, unwritten = (f"{lemma} {D} (one {X}) _ _ {more}_ _" for lemma, more in (("weak_serialized", "_ "), ("weak_refused", "_ ")))
         if item.name == "Option":
             written, unwritten = (f"{lemma} {D} {D} (λ s k. k) _ _ 1 {it.terms.shape(item.args[0])} refl _ _ _ _ _" for lemma in ("serialized_case", "case_refused"))
-        self.goes = f"c.{recursive_code.keyed(it, member)}.ensures.goes_on"
+        self.goes = f"c.{code.keyed(it, member)}.ensures.goes_on"
         self.serialized = f"({same} ({written} c.in-Ok.ensures.serialized))"
         self.refusals = [("in-Err", self.goes, f"({same} ({unwritten} c.in-Err.ensures.refused))")]
 
@@ -593,7 +593,7 @@ class BehindShared:
 
 def keyed_written(it, member, answers):
     """The answers on a value that is written under a key."""
-    function = recursive_code.keyed(it, member)
+    function = code.keyed(it, member)
     answered(answers, function, BehindShared(it, member, "", "c.in-Some", "c.in-None"), "in-Some")
 
 
@@ -621,7 +621,7 @@ def pointer_written(it, type, answers):
 
 
 def weak_written(it, type, answers):
-    recursive_weak.written(it, type, answers, BehindShared)
+    weak.written(it, type, answers, BehindShared)
 
 
 def run_owner_written(it, type, answers):
@@ -654,7 +654,7 @@ def run_owner_written(it, type, answers):
 def choice_written(it, answers):
     """The answers of the function that goes by the variant."""
     function = "" if it.is_holder else f"serialize_{it.n}"
-    inline = {case.name: recursive_code.is_inline(case) for case in it.cases}
+    inline = {case.name: code.is_inline(case) for case in it.cases}
     made = [(case.name, word) for case in it.cases for word in (words_of(it, case) if inline[case.name] else [f"serialize_{case.n}"] if case.count else [])]
     words = [word for _, word in made]
     calls, oks, errs = in_arms(made), matched("in-Ok", words), matched("in-Err", words)
@@ -703,7 +703,7 @@ def reading(family):
         if not it.is_holder:
             measures(it, answers)
         for type in it.owners:
-            {"Box": box_read, "BoxSlice": run_read, "Option": option_read, "Vec": run_read, "BTreeMap": recursive_map_proofs.read, "Shared": shared_read, "WeakShared": recursive_weak.read, "array": array_read, "tuple": row_read}[type.name](it, type, answers)
+            {"Box": box_read, "BoxSlice": run_read, "Option": option_read, "Vec": run_read, "BTreeMap": map_proofs.read, "Shared": shared_read, "WeakShared": weak.read, "array": array_read, "tuple": row_read}[type.name](it, type, answers)
         for case in it.cases:
             here = answers if it.is_record or any(case.leads_back) else Answers(family, f"read_{case.n}")
             parts_read(it, case, here, f"read_{case.n}" if here is answers and not it.is_holder else "")
@@ -971,7 +971,7 @@ def defining(it):
     added = f"c.define_{'record' if it.is_record else 'choice'}.ensures"
     for clause in ("added", "refused"):
         answers.answer("", f"returns-clause-{clause}", f"{added}.{clause} _ c.{it.n}_expressions.ensures", "c")
-    return answers.files() | recursive_expressions.files(it, Answers)
+    return answers.files() | expressions.files(it, Answers)
 
 
 ON_OK = """on_ok : {A B P Q : Type 0} (r : Result A B) → (P → Q) → OnOk r P → OnOk r Q
@@ -1012,11 +1012,11 @@ def defining_all(family):
 def files(family):
     out = {} if family.first.is_simple else defining_all(family)
     for it in family.members:
-        out.update(recursive_lent.files(it))
+        out.update(lent.files(it))
         if not it.is_holder:
             out.update(defining(it))
-            out.update(recursive_hollow.files(it))
-            out.update(recursive_weak.files(it))
+            out.update(hollow.files(it))
+            out.update(weak.files(it))
     if family.first.is_chain:
         out.update(chains.files(family.first))
         return out

@@ -4,9 +4,9 @@ The fields are lent, in a struct of references to them and to the hollow parts t
 variant a function of the module does, which is passed no impl of the enum: with all its variants that came to too much.
 """
 
-from .layout import Generic, literal, statement
-from .long import lent
-from .recursive_terms import brought
+from ..layout import Generic, literal, statement
+from ..long import lent
+from .terms import brought
 
 RESOLVED = "resolve_lent"
 # What the answers speak of.
@@ -33,7 +33,7 @@ def function(it):
 
 def text(it):
     """The structs of references, with the function that resolves a variant of an enum."""
-    from .recursive_code import hollows
+    from .code import hollows
 
     f, out = it.formats, []
     for case in long_cases(it):
@@ -101,7 +101,7 @@ def files(it):
 
 
 def answers(it, dotted):
-    from .recursive_proofs import ON_OK
+    from .proofs import ON_OK
 
     n = it.n
     whole = f"{n}_has_variants c.args.tag _ c.requires.variant _ c.requires.definitions _ c.args.place.pos"

@@ -1,10 +1,10 @@
 """The module of a recursive enum whose boxes of itself come last, as a list: it is checked, written, read back and dropped by loops."""
 
-from . import recursive_code as code
-from .common import chain, infix
-from .layout import Generic, Group, flat, literal, pair, signature, statement
-from .model import Refused
-from .recursive_refusals import MOST_BY_NAME
+from . import code
+from ..common import chain, infix
+from ..layout import Generic, Group, flat, literal, pair, signature, statement
+from ..model import Refused
+from .refusals import MOST_BY_NAME
 
 
 def is_chain(declaration, leads_back):

@@ -6,10 +6,10 @@ part, as they do a recursive type, but none of them calls itself.
 
 from typing import List
 
-from .formats import ALIGNS, has_shared
-from .model import Declaration, Field, Refused, Type
-from .recursive_plain import is_shaped
-from .recursive_refusals import MOST_BY_NAME, PLAIN
+from ..formats import ALIGNS, has_shared
+from ..model import Declaration, Field, Refused, Type
+from .plain import is_shaped
+from .refusals import MOST_BY_NAME, PLAIN
 
 
 def tell(it: Declaration):

@@ -3,9 +3,9 @@
 The calls of the library hand on what others made, or that memory was refused: so no function of the module tests for that, and none drops an expression.
 """
 
-from .layout import Generic, Group, call, signature, statement
-from .recursive_maps import archived_key
-from .recursive_terms import is_map
+from ..layout import Generic, Group, call, signature, statement
+from .maps import archived_key
+from .terms import is_map
 
 # By its path: with a `use` of it, the toolchain finds no clause of the module unless `crates.txt` names `archive_check`, whose type it is.
 EXPR = "archive_core::shape::Expr"

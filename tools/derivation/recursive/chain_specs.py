@@ -1,6 +1,6 @@
 """The definitions of an enum that goes by loops: what its check knows, and what its values are up to their boxes."""
 
-from .recursive_chains import opens
+from .chains import opens
 
 
 def shape(it, knows_parts):
