@@ -1,5 +1,4 @@
 -- Short words that clauses use.
-pub mod PartsWritten
 pub mod CopiesWritten
 pub mod Placed
 pub mod PlacedParts

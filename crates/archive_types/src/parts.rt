@@ -8,8 +8,7 @@ ghost use Rattle.archive_check.specs.Value.{Values, no_value, product, value};
 ghost use Rattle.archive_types.specs.Members.Keyed.{nothing_keyed, part_keyed};
 ghost use Rattle.archive_types.specs.Parts.{ArePlanned, AreKeyed, ZeroedParts};
 ghost use Rattle.archive_types.specs.Members.PartsPlanned.{no_part_planned, part_planned};
-ghost use Rattle.archive_types.specs.PartsReading.{PartsViewed};
-ghost use Rattle.archive_types.specs.Words.PartsWritten.{ReadsPartsBack, PartsRefused};
+ghost use Rattle.archive_types.specs.PartsReading.{PartsViewed, PartsReadBack, RefusesParts};
 ghost use Rattle.archive_types.specs.Outcomes.{ResolvesAllParts};
 
 mod four_parts;
@@ -190,10 +189,11 @@ pub trait DeserializeParts<T: OwnedParts, D: Entries>: PortableParts {
         deserializer: &mut D,
     ) -> Result<T, Error>
         requires viewed { PartsViewed Self.definitions bytes.now pos start Self.parts }
-        ensures read { IfOk result (ReadsPartsBack Self.CheckedParts bytes.now pos start D.Entries
-            deserializer T.meanings T.keys) }
-        ensures refused { IfErr result (PartsRefused Self.CheckedParts bytes.now pos start D.Entries
-            deserializer) };
+        ensures read { IfOk result (λ v. PartsReadBack D.keeps bytes.now pos Self.definitions
+            Self.parts start (D.entry_of deserializer.old) (D.entry_of deserializer.new)
+            (T.meanings v) (T.keys v)) }
+        ensures refused { IfErr result (RefusesParts Self.definitions bytes.now pos Self.parts start
+            (D.entry_of deserializer.old)) };
 }
 
 impl<D: Entries> DeserializeParts<(), D> for () {

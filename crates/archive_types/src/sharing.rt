@@ -4,7 +4,7 @@ ghost use Rattle.std.specs.Prelude.{◌≡◌, ◌⊎◌, None, Option, Some, �
 ghost use Rattle.archive_check.specs.WriterState.{KeepsBytes, KeepsKeys};
 ghost use Rattle.archive_types.specs.Causes.{Explains, HindersShared, HindersRegion, RegionReaches};
 ghost use Rattle.archive_types.specs.Plans.{cursor, begun, SerializedShared};
-ghost use Rattle.archive_types.specs.Words.SharedWriting.{IsUnchangedIfKnown, StoresIfUnknown, SharedRefused};
+ghost use Rattle.archive_types.specs.Words.SharedWriting.{SharedRefused};
 ghost use Rattle.archive_write.specs.Sharing.{known_answer};
 ghost use Rattle.archive_write.specs.Written.{GoesOn};
 
@@ -35,9 +35,13 @@ pub trait SharingExt: Sharing + Writer {
         Self: Sized,
         ensures known { (s : Option ℕ) → (Self.state self.old).states key ≡ Some s → result
             ≡ known_answer s }
-        ensures unchanged { IsUnchangedIfKnown key Self.Keys self }
-        ensures serialized { StoresIfUnknown key T.ArchiveUnsized T.Archived.ArchivePointee
-            value.now Self.Keys self result }
+        ensures unchanged { (s : Option ℕ) → (Self.state self.old).states key ≡ Some s
+            → KeepsBytes (Self.state self.old) (Self.state self.new)
+            × KeepsKeys (Self.state self.old).states (Self.state self.new).states }
+        ensures serialized { (Self.state self.old).states key ≡ None
+            → IfOk result (λ p. SerializedShared T.Archived.definitions T.Archived.pointee
+            (T.source_length value.now) key (T.keys value.now) (T.meaning value.now) p
+            (Self.state self.old) (Self.state self.new)) }
         ensures goes_on { GoesOn (Self.state self.old) (Self.state self.new) }
         ensures refused { IfErr result (SharedRefused key T.ArchiveUnsized T.Archived.ArchivePointee
             value.now Self.Keys self) }

@@ -10,7 +10,6 @@ ghost use Rattle.archive_check.specs.Value.{Value, list};
 ghost use Rattle.archive_check.specs.Viewed.{Viewed};
 ghost use Rattle.archive_check.specs.declared.format.error.Error.TheVariants.{LengthTooLarge};
 ghost use Rattle.archive_types.specs.Words.CopiesWritten.{CopiesInBulk};
-ghost use Rattle.archive_types.specs.Words.Placed.{IsPlanned};
 ghost use Rattle.archive_types.specs.Words.Seen.{IsPartOf};
 ghost use Rattle.archive_types.specs.Causes.{HindersAt, IsRefused, IsRegionRefused};
 ghost use Rattle.archive_types.specs.Plans.{HasPlan, HasRegionPlan, Serialized, SerializedRegion};
@@ -240,8 +239,8 @@ pub trait ArchiveUnsized {
         ≡ 0 };
 
     // There is a plan of it, with its region.
-    ghost planned: { (v : Self) → IsPlanned Self.Archived.ArchivePointee (source_length v) (keys v)
-        (meaning v) };
+    ghost planned: { (v : Self) → HasRegionPlan Self.Archived.definitions Self.Archived.pointee
+        (source_length v) (keys v) (meaning v) };
 }
 
 /// A source that can be serialized to an `S` as a region of its own. As in rkyv 0.8.18.

@@ -5,13 +5,13 @@ ghost use Rattle.archive_check.specs.ComesTo.{IsComeTo};
 ghost use Rattle.archive_check.specs.Definitions.{no_definition};
 ghost use Rattle.archive_check.specs.Leaves.{edit};
 ghost use Rattle.archive_check.specs.Readable.{string_text};
+ghost use Rattle.archive_check.specs.Reads.{bytes_at};
 ghost use Rattle.archive_check.specs.Shape.{str as str_shape, one, text};
 ghost use Rattle.archive_check.specs.Viewed.{Viewed};
 ghost use Rattle.archive_core.specs.SealsKept.{ComesWith};
 ghost use Rattle.archive_core.specs.SealsWritten.{IsSealOf, SealsPart, WritesText, WritesString, string_edit};
 ghost use Rattle.archive_types.specs.Sealed.{text_begin};
 ghost use Rattle.archive_types.specs.Standing.{view};
-ghost use Rattle.archive_types.specs.Words.Seen.{IsTextAt};
 
 use super::{Seal, Spot};
 use archive_check::format::bytes::{inline_length, is_out_of_line, read_coded_length, read_target};
@@ -43,7 +43,8 @@ fn write_text_over(value: &str, bytes: &mut [u8], spot: Spot<ArchivedStr>)
 // Where the text of a string stands.
 fn text_spot(string: Ref<'_, ArchivedString>) -> Spot<ArchivedStr>
     ensures position { result.pos ≡ text_begin string.entry.bytes.now string.entry.pos }
-    ensures text { IsTextAt string.entry result.pos result.len }
+    ensures text { bytes_at string.entry.bytes.now result.pos result.len
+        ≡ string_text string.entry.bytes.now string.entry.pos }
     ensures viewed { Viewed no_definition string.entry.bytes.now result.pos text result.len }
     ensures beside { ComesWith no_definition string.entry.bytes.now
         (view string.entry.pos (one str_shape) string.entry.len) (view result.pos text result.len) }

@@ -31,7 +31,3 @@ abbrev pub RelPut : {F R T : Type 0} → Sign → Width → Bool → ℕ → ℕ
 RelPut sign width is_long n to p result =
     MatchResult result (λ _. Fits sign width (distance p.entry.pos to) × (p.exit.0.now ≡ rel_bytes width is_long (distance p.entry.pos to) n p.entry.bytes.now))
     (λ e. (p.exit.0.now ≡ p.entry.bytes.now) × IsBeyond sign width e (distance p.entry.pos to))
-
--- The bytes of the place are an invalid pointer.
-abbrev pub InvalidPut : {F R : Type 0} → Width → Bool → Both (Place F) (MutBor (List ℕ) × R) → Type 0
-InvalidPut width is_long p = p.exit.0.now ≡ rel_bytes width is_long (pos 1) 0 p.entry.bytes.now

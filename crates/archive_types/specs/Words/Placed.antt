@@ -5,15 +5,11 @@ use denote.Ref.{MutBor}
 use Rattle.std.specs.Prelude.{◌≡◌, ◌<◌, ◌⊎◌, ◌+◌, ◌++◌, ℕ, Bool, List, length, Result, IsErrOf}
 use Rattle.archive_check.specs.Layout.{pointer_size, has_length}
 use Rattle.archive_check.specs.Shape.{Pointee}
-use Rattle.archive_check.specs.Value.{Value}
 use Rattle.archive_check.specs.declared.format.error.Error.{Error}
 use Rattle.archive_check.specs.declared.format.error.Error.TheVariants.{LengthTooLarge}
-use Rattle.archive_check.specs.Denotes.{Naming}
-use Rattle.archive_check.specs.declared.format.traits.ArchivePointee as ArchivePointee
 use Rattle.archive_check.specs.declared.format.traits.Keys as Keys
 use Rattle.archive_num.specs.Offsets.{distance, IsTooFar}
 use Rattle.archive_num.specs.OwnerBytes.{owner_bytes, HindersPointerAt}
-use Rattle.archive_types.specs.Plans.{HasRegionPlan}
 use Rattle.archive_types.specs.declared.place.Place.{Place}
 use Rattle.archive_write.specs.Written.{ExplainsRefusal}
 
@@ -53,7 +49,3 @@ Pointed P n t position k w = (k.state w.exit.now).bytes ≡ (k.state w.entry.now
 abbrev pub PointerRefused : {S : Type 0} → Pointee → ℕ → ℕ → (S → ℕ) → Keys.Ghosts S → Both (MutBor S) (MutBor S) → Error → Type 0
 PointerRefused P n t position k w e =
     (HindersPointerAt n (pointer_size P) (position w.entry.now) t e × (k.state w.exit.now ≡ k.state w.entry.now)) ⊎ WriteRefused (pointer_size P) position k w e
-
--- There is a plan of a pointee of n elements or bytes, with its region.
-abbrev pub IsPlanned : {T M : Type 0} → ArchivePointee.Ghosts T M → ℕ → List Naming → Value → Type 0
-IsPlanned g n keys v = HasRegionPlan g.definitions g.pointee n keys v

@@ -8,10 +8,9 @@ use Rattle.archive_check.specs.Layout.{Layout}
 use Rattle.archive_check.specs.Shape.{Pointee}
 use Rattle.archive_check.specs.LittleEndian.{little_number}
 use Rattle.archive_check.specs.Reads.{bytes_at, length_at}
-use Rattle.archive_check.specs.Readable.{target_from, string_text}
-use Rattle.archive_check.specs.Value.{Value, case, shared_value}
+use Rattle.archive_check.specs.Readable.{target_from}
+use Rattle.archive_check.specs.Value.{Value, shared_value}
 use Rattle.archive_check.specs.Denotes.{Naming}
-use Rattle.archive_check.specs.Definitions.{Definitions}
 use Rattle.archive_check.specs.Entries.{ReadsBack, RefusesReading}
 use Rattle.archive_check.specs.Viewed.{Viewed, Says}
 use Rattle.archive_check.specs.declared.format.error.Error.{Error}
@@ -111,7 +110,3 @@ ViewComparesTo {g = g} v = ComparesTo g.definitions g.pointee v.bytes.now v.pos 
 
 abbrev pub ViewEquals : {T M : Type 0} {g : ArchivePointee.Ghosts T M} → Ref T M g → Value → Bool → Type 0
 ViewEquals {g = g} v = EqualsTo g.definitions g.pointee v.bytes.now v.pos v.len
-
--- The n bytes at p are the text of the string that a view shows.
-abbrev pub IsTextAt : {T M : Type 0} {g : ArchivePointee.Ghosts T M} → Ref T M g → ℕ → ℕ → Type 0
-IsTextAt v p n = bytes_at v.bytes.now p n ≡ string_text v.bytes.now v.pos

@@ -2,7 +2,7 @@
 -- return.
 use denote.Triple.Both.{Both}
 use denote.Ref.{MutBor}
-use Rattle.std.specs.Prelude.{◌≡◌, ℕ, List, ◌∷◌, Option, Some, None, Result, IfOk, IsErrOf}
+use Rattle.std.specs.Prelude.{◌≡◌, ℕ, List, ◌∷◌, Some, None, Result, IsErrOf}
 use Rattle.archive_check.specs.Shape.{Flavor, Pointee, one, weak}
 use Rattle.archive_check.specs.WriterState.{KeepsBytes, KeepsKeys}
 use Rattle.archive_check.specs.declared.format.error.Error.{Error}
@@ -11,7 +11,7 @@ use Rattle.archive_check.specs.Denotes.{Naming}
 use Rattle.archive_check.specs.declared.format.traits.ArchivePointee as ArchivePointee
 use Rattle.archive_check.specs.declared.format.traits.Keys as Keys
 use Rattle.archive_types.specs.Causes.{Explains, HindersRegion, HindersShared, RegionReaches}
-use Rattle.archive_types.specs.Plans.{SerializedShared, begun, cursor}
+use Rattle.archive_types.specs.Plans.{begun, cursor}
 use Rattle.archive_types.specs.Members.SharedLaws.{flavor_as, naming_of}
 use Rattle.archive_types.specs.declared.rc.Flavor as FlavorOf
 use Rattle.archive_types.specs.declared.traits.ArchiveUnsized as ArchiveUnsized
@@ -30,18 +30,7 @@ AnswersPending key result k w =
     (k.state w.entry.now).states key ≡ Some None
     → IsErrOf result CyclicSerialize × KeepsBytes (k.state w.entry.now) (k.state w.exit.now) × KeepsKeys (k.state w.entry.now).states (k.state w.exit.now).states
 
--- Where the key is known, neither the bytes nor the keys changed.
-abbrev pub IsUnchangedIfKnown : {S : Type 0} → ℕ → Keys.Ghosts S → Both (MutBor S) (MutBor S) → Type 0
-IsUnchangedIfKnown key k w =
-    (s : Option ℕ) → (k.state w.entry.now).states key ≡ Some s
-    → KeepsBytes (k.state w.entry.now) (k.state w.exit.now) × KeepsKeys (k.state w.entry.now).states (k.state w.exit.now).states
-
--- Where the key was unknown, the source was laid out under it; and why it wasn't.
-abbrev pub StoresIfUnknown : {U A M S : Type 0} → ℕ → ArchiveUnsized.Ghosts U A M → ArchivePointee.Ghosts A M → U → Keys.Ghosts S → Both (MutBor S) (MutBor S) → Result ℕ Error → Type 0
-StoresIfUnknown key u g v k w result =
-    (k.state w.entry.now).states key ≡ None
-    → IfOk result (λ p. SerializedShared g.definitions g.pointee (u.source_length v) key (u.keys v) (u.meaning v) p (k.state w.entry.now) (k.state w.exit.now))
-
+-- Why a source wasn't laid out under its key.
 abbrev pub SharedRefused : {U A M S : Type 0} → ℕ → ArchiveUnsized.Ghosts U A M → ArchivePointee.Ghosts A M → U → Keys.Ghosts S → Both (MutBor S) (MutBor S) → Error → Type 0
 SharedRefused key u g v k w e =
     Explains

@@ -12,8 +12,8 @@ ghost use Rattle.archive_check.specs.LittleEndian.{little_bytes};
 ghost use Rattle.archive_check.specs.Reads.{u32_at};
 ghost use Rattle.archive_check.specs.declared.format.error.Error.TheVariants.{OutOfMemory, OffsetOverflow};
 ghost use Rattle.archive_num.specs.Offsets.{distance, offset_at};
-ghost use Rattle.archive_types.specs.Words.OffsetsWritten.{RelWritten, RelPut, InvalidPut};
-ghost use Rattle.archive_types.specs.RelativePointers.{rel_parts, length_begin, rel_layout, written_at};
+ghost use Rattle.archive_types.specs.Words.OffsetsWritten.{RelWritten, RelPut};
+ghost use Rattle.archive_types.specs.RelativePointers.{rel_bytes, rel_parts, length_begin, rel_layout, written_at};
 ghost use Rattle.archive_types.specs.Members.RelativeLayout.{rel_align, rel_has_layout};
 
 use super::metadata::Metadata;
@@ -188,7 +188,8 @@ where
     pub fn try_emplace_invalid(place: Place<'_, RelPtr<T, O>>) -> Result<(), Error>
         requires { length place.bytes.now ≡ (rel_layout O.Number.width
             T.ArchivedMetadata.is_length).size }
-        ensures written { InvalidPut O.Number.width T.ArchivedMetadata.is_length place }
+        ensures written { place.exit.0.now ≡ rel_bytes O.Number.width T.ArchivedMetadata.is_length
+            (pos 1) 0 place.entry.bytes.now }
         ensures succeeds { IsOk result }
     {
         let Place { bytes, .. } = place;

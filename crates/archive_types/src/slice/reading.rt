@@ -10,7 +10,7 @@ ghost use Rattle.archive_types.specs.ElementsRead.{ReadsEach, RefusesEach};
 ghost use Rattle.archive_types.specs.FirstRead.{AreFirstRead};
 ghost use Rattle.archive_types.specs.Runs.{each_meaning, each_keys};
 ghost use Rattle.archive_types.specs.Words.Seen.{IsPartOf};
-ghost use Rattle.archive_types.specs.Words.Sources.{AreElementsOf, ReadsAs, ReadsElements, RefusesElements};
+ghost use Rattle.archive_types.specs.Words.Sources.{ReadsAs};
 ghost use Rattle.archive_types.specs.Views.{AreViewed};
 
 use super::ArchivedSlice;
@@ -73,10 +73,13 @@ pub fn read_elements<T: Portable + Deserialize<U, D>, U: Archive + Drop, D: Entr
     part: RawView<'_>,
     deserializer: &mut D,
 ) -> Result<Vec<U>, Error>
-    requires { AreElementsOf T.Portable part }
-    ensures read { IfOk result (λ v. ReadsElements T.Portable part D.Entries deserializer U.Archive
-        v.items) }
-    ensures refused { IfErr result (RefusesElements T.Portable part D.Entries deserializer) }
+    requires { Viewed T.definitions part.bytes.now part.pos (run T.shape) part.len }
+    ensures read { IfOk result (λ v. ReadsBack D.keeps T.definitions part.entry.bytes.now
+        part.entry.pos (run T.shape) part.entry.len (D.entry_of deserializer.old)
+        (D.entry_of deserializer.new) (list (each_meaning U.meaning v.items))
+        (each_keys U.keys v.items)) }
+    ensures refused { IfErr result (RefusesReading T.definitions part.entry.bytes.now part.entry.pos
+        (run T.shape) part.entry.len (D.entry_of deserializer.old)) }
 {
     let count = part.len;
     read_each::<T, U, D>(alloc, part, count, deserializer)
