@@ -1,5 +1,6 @@
 //! Writers of archives, and the keys of what is shared in them.
 #![tactic(auto)]
 
+mod known;
 pub mod ser;
 pub mod sharing;

@@ -1,0 +1,139 @@
+//! The keys that are known: a map of their states, and slots in which most of the finished ones are found first.
+
+ghost use Rattle.std.specs.Prelude.{◌≡◌, ◌+◌, ◌≤◌, ◌<◌, None, Some, OnOk, OnErr, IfOk, IsOk, IsTrue, IsFalse, is_some, nat_eq};
+ghost use Rattle.std.specs.HashMap.{get, spare};
+ghost use Rattle.archive_check.specs.context.PositionStates.{finish_answer};
+ghost use Rattle.archive_check.specs.Slots.{SlotsSayNothing};
+ghost use Rattle.archive_check.specs.WriterState.{KeepsKeys};
+ghost use Rattle.archive_write.specs.FinishedKeys.{AreFinishedKeys};
+ghost use Rattle.archive_write.specs.Sharing.{IsSet, KnowsNone};
+ghost use Rattle.archive_write.specs.Writes.{IsStarted};
+
+use archive_check::format::error::Error;
+use archive_check::slots::Slots;
+use std::alloc::{AllocError, Allocator};
+use std::collections::HashMap;
+use std::hash::{BuildHasherDefault, FoldHasher};
+
+// Fewer keys are found in the map as fast.
+const FEW: usize = 14;
+
+type States<A> = HashMap<u64, Option<usize>, BuildHasherDefault<FoldHasher>, A>;
+
+/// The states of keys. A finished key, to which most pointers lead, is looked for in a slot first.
+#[derive(Drop)]
+pub(crate) struct KnownKeys<A: Allocator> {
+    states: States<A>,
+    finished: Slots<usize, A>,
+    ghost recalls: { AreFinishedKeys finished (get nat_eq states) },
+}
+
+// No key, and slots for so many, unless they are few.
+fn slots_for<A: Allocator + Clone>(alloc: A, capacity: usize) -> Result<Slots<usize, A>, AllocError>
+    ensures { IfOk result SlotsSayNothing }
+{
+    if capacity <= FEW {
+        return Ok(Slots::new(alloc));
+    }
+    let mut slots = Slots::new(alloc);
+    slots.make_room(capacity)?;
+    Ok(slots)
+}
+
+impl<A: Allocator + Clone> KnownKeys<A> {
+    /// No key. Memory comes from `alloc`, and none is taken yet.
+    pub(crate) fn new(alloc: A) -> Result<KnownKeys<A>, AllocError>
+        ensures { IfOk result (λ known. KnowsNone (get nat_eq known.states)) }
+    {
+        Ok(KnownKeys {
+            states: HashMap::new(alloc.clone()?),
+            finished: Slots::new(alloc),
+        })
+    }
+
+    /// No key, and room for `capacity` of them. Fails if memory from `alloc` is refused.
+    pub(crate) fn with_capacity(alloc: A, capacity: usize) -> Result<KnownKeys<A>, AllocError>
+        ensures fresh { IfOk result (λ known. KnowsNone (get nat_eq known.states)) }
+        ensures room { IfOk result (λ known. capacity ≤ spare known.states) }
+    {
+        Ok(KnownKeys {
+            states: HashMap::with_capacity(alloc.clone()?, capacity)?,
+            finished: slots_for(alloc, capacity)?,
+        })
+    }
+
+    /// The state of a key: pending, or finished at a position; none where it is unknown.
+    #[inline(always)]
+    pub(crate) fn get(&self, key: u64) -> Option<Option<usize>>
+        ensures { result ≡ get nat_eq self.now.states key }
+    {
+        match self.finished.get(key) {
+            Some(position) => Some(Some(*position)),
+            None => self.search(key),
+        }
+    }
+
+    // The same, by the map. It stands apart, since most keys are found in a slot.
+    #[inline(never)]
+    fn search(&self, key: u64) -> Option<Option<usize>>
+        ensures { result ≡ get nat_eq self.now.states key }
+    {
+        self.states.get(&key).copied()
+    }
+
+    // Makes slots where the map is to grow: here, since to finish a key takes no memory.
+    fn make_slots(&mut self) -> Result<(), AllocError>
+        ensures same { self.new.states ≡ self.old.states }
+        ensures served { 0 < spare self.old.states → IsOk result }
+    {
+        let len = self.states.len();
+        if len < FEW || len != self.states.capacity() {
+            return Ok(());
+        }
+        self.finished.make_room(len.saturating_mul(2))
+    }
+
+    /// Starts an unknown key, and returns whether there was memory for it.
+    pub(crate) fn start(&mut self, key: u64) -> bool
+        requires { get nat_eq self.old.states key ≡ None }
+        ensures started { IsTrue result → IsStarted (get nat_eq self.old.states) key
+            (get nat_eq self.new.states) }
+        ensures unchanged { IsFalse result → KeepsKeys (get nat_eq self.old.states)
+            (get nat_eq self.new.states) }
+        ensures served { 0 < spare self.old.states → IsTrue result }
+        ensures room { spare self.old.states ≤ spare self.new.states + 1 }
+    {
+        self.make_slots().is_ok() && self.states.insert(key, None).is_ok()
+    }
+
+    /// Finishes the pending `key` at `position`. Takes no memory.
+    pub(crate) fn finish(&mut self, key: u64, position: usize) -> Result<(), Error>
+        ensures answer { result ≡ finish_answer is_some (get nat_eq self.old.states key) }
+        ensures after { OnOk result (IsSet (get nat_eq self.old.states) key (Some (Some position))
+            (get nat_eq self.new.states)) }
+        ensures unchanged { OnErr result (KeepsKeys (get nat_eq self.old.states)
+            (get nat_eq self.new.states)) }
+        ensures room { spare self.new.states ≡ spare self.old.states }
+    {
+        match self.states.get_mut(&key) {
+            None => Err(Error::NotStarted),
+            Some(state) => {
+                if state.is_some() {
+                    return Err(Error::AlreadyFinished);
+                }
+                *state = Some(position);
+                self.finished.add(key, position);
+                Ok(())
+            }
+        }
+    }
+
+    /// Forgets every key. Takes no memory, and keeps what it has.
+    pub(crate) fn clear(&mut self)
+        ensures fresh { KnowsNone (get nat_eq self.new.states) }
+        ensures room { spare self.old.states ≤ spare self.new.states }
+    {
+        self.states.clear();
+        self.finished.clear();
+    }
+}
