@@ -1,5 +1,5 @@
 -- A region is entered: what the range calls say, and what is left to do.
-use Rattle.std.proofs.Common.{◌≡◌, ◌≢◌, ℕ, ℤ, pos, refl, sym, ap, ap₂, ◌∙◌, ◌+◌, ◌*◌, ◌<◌, ◌≤◌, nat_eq, Bool, true, false, arith, List, ◌∷◌, length, Option, Some, None, Err, IsUtf8}
+use Rattle.std.proofs.Common.{◌≡◌, ◌≢◌, ℕ, ℤ, pos, refl, sym, ap, ap₂, ◌∙◌, ◌+◌, ◌*◌, ◌<◌, ◌≤◌, nat_eq, Bool, true, false, arith, List, [], ◌∷◌, length, Option, Some, None, Err, IsUtf8}
 use Rattle.std.proofs.lemmas.Bool.Decides.{nat_tests}
 use Rattle.archive_check.specs.declared.format.error.Error.{Error}
 use Rattle.archive_check.specs.declared.format.expr.Key.{Key as KeyExpr}
@@ -19,9 +19,10 @@ use Rattle.archive_schema.specs.plan.BoundedSizes.{sum_of}
 use Rattle.archive_check.specs.Outcomes.{Outcome, done}
 use Rattle.archive_schema.specs.check.Runs.{Takes, EntryTakes, RegionIs, unit_size, unit_align, value_begin, enter_stop, contents_text, contents_empty, contents_one, contents_run, run_free, elements_free, IsNode, enter_within, ListRuns}
 use Rattle.archive_check.specs.declared.context.range.Region.{Region}
+use Rattle.archive_schema.specs.check.Lists.{left_first, CanLeaveMore}
 use Rattle.archive_schema.specs.check.Entered.{Entered}
 use Rattle.archive_schema.specs.check.Through.{Rule, Through, Stops, region_rule, contents_rule}
-use Rattle.archive_schema.specs.check.LoopInvariant.{and_then, RegionIsLegalHere, Ready, stage, pending_in, regions_in, Agreeing, IsOrderly, Listing, Entering, TurnLeads, power, level, cost}
+use Rattle.archive_schema.specs.check.LoopInvariant.{and_then, RegionIsLegalHere, Ready, ListFits, stage, pending_in, regions_in, Agreeing, IsOrderly, Listing, Entering, TurnLeads, power, level, cost}
 use Rattle.archive_check.specs.context.FreshContexts.{HasLevels}
 use Rattle.archive_schema.proofs.check.TurnRules.{enter_one, enter_run, enter_entries}
 use Rattle.archive_schema.proofs.check.ContextAgrees.{allows, agrees_inside, levels_of}
@@ -143,18 +144,70 @@ region_leads m target j n z s s' met met' old through same = record {
       );
 }
 
-module _ (m : Checker) {target : PointeeKind} (j n : ℕ) (z : ℤ) (s s' : RangeState) (met met' : Positions) (old mid : List Work) (r : Region) (h : Entered m target j n z s s' r) (same : met' ≡ met) (list : mid ≡ Leave r.outer_start r.outer_end ∷ old) where
-  listed : mid ≡ Leave (r.begin + r.size) s.end ∷ old
-  listed = list ∙ ap₂ (λ a b. Leave a b ∷ old) h.outer_start h.outer_end
+-- where a region is left first
+module _ (m : Checker) (a b : ℕ) where
+  left_pending : (work : List Work) → pending_in (left_first a b work) ≡ pending_in work
+  left_pending [] = refl
+  left_pending (entry ∷ work) = by_entry entry
+    where
+      by_entry : (entry : Work) → pending_in (left_first a b (entry ∷ work)) ≡ pending_in (entry ∷ work)
+      by_entry (Leave x y n) = refl
+      by_entry entry = refl
+
+  left_regions : (work : List Work) → regions_in (left_first a b work) ≡ 1 + regions_in work
+  left_regions [] = refl
+  left_regions (entry ∷ work) = by_entry entry
+    where
+      by_entry : (entry : Work) → regions_in (left_first a b (entry ∷ work)) ≡ 1 + regions_in (entry ∷ work)
+      by_entry (Leave x y n) = omega arith
+      by_entry entry = refl
+
+  left_costs : (stop : ℕ) (work : List Work) → cost m stop (left_first a b work) ≤ 1 + cost m b work
+  left_costs stop [] = omega arith
+  left_costs stop (entry ∷ work) = by_entry entry
+    where
+      by_entry : (entry : Work) → cost m stop (left_first a b (entry ∷ work)) ≤ 1 + cost m b (entry ∷ work)
+      by_entry (Leave x y n) = omega arith
+      by_entry entry = omega arith
+
+  left_fits : (stop : ℕ) (work : List Work) → stop < a → a ≤ b → b ≤ length m.bytes.now → ListFits m b work → ListFits m stop (left_first a b work)
+  left_fits stop [] above ordered below fits = (omega arith, ordered, below, fits)
+  left_fits stop (entry ∷ work) above ordered below fits = by_entry entry fits
+    where
+      by_entry : (entry : Work) → ListFits m b (entry ∷ work) → ListFits m stop (left_first a b (entry ∷ work))
+      by_entry (Leave x y n) f = (omega (arith, f.0), f.1, f.2, f.3)
+      by_entry entry f = (omega arith, ordered, below, f)
+
+-- one region more can be left first
+pub can_leave_more : (m : Checker) (stop : ℕ) (work : List Work) → length m.bytes.now < 18446744073709551616 → ListFits m stop work → CanLeaveMore work
+can_leave_more m stop [] small fits = tt
+can_leave_more m stop (entry ∷ work) small fits = by_entry entry fits
+  where
+    by_entry : (entry : Work) → ListFits m stop (entry ∷ work) → CanLeaveMore (entry ∷ work)
+    by_entry (Leave x y n) f = omega (arith, f.0, f.1, f.2)
+    by_entry entry f = tt
+
+module _ (m : Checker) {target : PointeeKind} (j n : ℕ) (z : ℤ) (s s' : RangeState) (met met' : Positions) (old mid : List Work) (r : Region) (h : Entered m target j n z s s' r) (same : met' ≡ met) (lt : 0 < r.size) (list : mid ≡ left_first r.outer_start r.outer_end old) where
+  listed : mid ≡ left_first (r.begin + r.size) s.end old
+  listed = list ∙ ap₂ (λ a b. left_first a b old) h.outer_start h.outer_end
 
   entered_ready : Ready m s old → Ready m s' mid
-  entered_ready r = record {
-    below = omega (arith, h.end, h.lands.below, r.below);
-    fits = rw listed (omega (arith, h.end), r.below, r.fits);
+  entered_ready ready = record {
+    below = omega (arith, h.end, h.lands.below, ready.below);
+    fits = rw listed (left_fits m (r.begin + r.size) s.end s'.end old (omega (arith, h.end, lt)) h.lands.below ready.below ready.fits);
   }
 
-  moved : {w w' : List Work} {seen : Seen} {o : Outcome} → w ≡ w' → Listing m (stage s' met' w) seen o → ListRuns m (pending_in w') (inside s.depth) r.begin w' s.start seen o
-  moved e r = let inward : s'.depth ≡ inside s.depth = h.depth in rw (h.start, h.end, inward, e) at r
+  mid_pending : pending_in mid ≡ pending_in old
+  mid_pending = ap pending_in listed ∙ left_pending m (r.begin + r.size) s.end old
+
+  mid_regions : regions_in mid ≡ 1 + regions_in old
+  mid_regions = ap regions_in listed ∙ left_regions m (r.begin + r.size) s.end old
+
+  mid_costs : cost m s'.end mid ≤ 1 + cost m s.end old
+  mid_costs = rw listed (left_costs m (r.begin + r.size) s.end s'.end old)
+
+  moved : {w w' : List Work} {seen : Seen} {o : Outcome} → w ≡ w' → pending_in w' ≡ pending_in old → Listing m (stage s' met' w) seen o → ListRuns m (pending_in old) (inside s.depth) r.begin w' s.start seen o
+  moved e f r = let inward : s'.depth ≡ inside s.depth = h.depth in rw (h.start, h.end, inward, e, f) at r
 
   entering : {seen : Seen} {o : Outcome} → Entering m target j n (pos r.begin) (stage s met old) seen o → Entering m target j n z (stage s met old) seen o
   entering q = rw h.lands.target q
@@ -165,28 +218,28 @@ module _ (m : Checker) {target : PointeeKind} (j n : ℕ) (z : ℤ) (s s' : Rang
   ordered : (new : List Work) → pending_in new ≡ pending_in old → regions_in new ≡ 1 + regions_in old → IsOrderly (stage s met old) → IsOrderly (stage s' met' new)
   ordered new e f k = rw (h.depth, same, e, f) (orderly_inside h.deep k)
 
-  module _ (new : List Work) (lt : 0 < r.size) where
+  module _ (new : List Work) where
     pub entered_one : target ≡ One → new ≡ PartWork j r.begin ∷ mid → TurnLeads m (Entering m target j n z) (stage s met old) (stage s' met' new)
     entered_one is e =
-        let whole : new ≡ PartWork j r.begin ∷ Leave (r.begin + r.size) s.end ∷ old = e ∙ ap (λ w. PartWork j r.begin ∷ w) listed in
+        let whole : new ≡ PartWork j r.begin ∷ left_first (r.begin + r.size) s.end old = e ∙ ap (λ w. PartWork j r.begin ∷ w) listed in
         record {
-          keeps = ordered new (ap pending_in whole) (ap regions_in whole);
+          keeps = ordered new (ap pending_in e ∙ mid_pending) (ap regions_in e ∙ mid_regions);
           leads = λ seen a. (
             seen,
-            agreed new (ap pending_in whole) (ap regions_in whole) a,
-            λ o q. entering (rw is (enter_one m (rw is at h.region) h.lands.above h.lands.below h.lands.aligned (allows a h.deep) lt (moved whole q))),
+            agreed new (ap pending_in e ∙ mid_pending) (ap regions_in e ∙ mid_regions) a,
+            λ o q. entering (rw is (enter_one m (rw is at h.region) h.lands.above h.lands.below h.lands.aligned (allows a h.deep) lt (moved whole (left_pending m (r.begin + r.size) s.end old) q))),
           );
         }
 
     pub entered_run : target ≡ Run → new ≡ Elements j n r.begin ∷ mid → TurnLeads m (Entering m target j n z) (stage s met old) (stage s' met' new)
     entered_run is e =
-        let whole : new ≡ Elements j n r.begin ∷ Leave (r.begin + r.size) s.end ∷ old = e ∙ ap (λ w. Elements j n r.begin ∷ w) listed in
+        let whole : new ≡ Elements j n r.begin ∷ left_first (r.begin + r.size) s.end old = e ∙ ap (λ w. Elements j n r.begin ∷ w) listed in
         record {
-          keeps = ordered new (ap pending_in whole) (ap regions_in whole);
+          keeps = ordered new (ap pending_in e ∙ mid_pending) (ap regions_in e ∙ mid_regions);
           leads = λ seen a. (
             seen,
-            agreed new (ap pending_in whole) (ap regions_in whole) a,
-            λ o q. entering (rw is (enter_run m (rw is at h.region) h.lands.above h.lands.below h.lands.aligned (allows a h.deep) lt (moved whole q))),
+            agreed new (ap pending_in e ∙ mid_pending) (ap regions_in e ∙ mid_regions) a,
+            λ o q. entering (rw is (enter_run m (rw is at h.region) h.lands.above h.lands.below h.lands.aligned (allows a h.deep) lt (moved whole (left_pending m (r.begin + r.size) s.end old) q))),
           );
         }
 
@@ -210,24 +263,24 @@ module _ (m : Checker) {target : PointeeKind} (j n : ℕ) (z : ℤ) (s s' : Rang
 
     pub entered_one_ends : j < length m.nodes.now → new ≡ PartWork j r.begin ∷ mid → cost m s'.end new ≤ power (level (length m.nodes.now) s.end 0 0) + cost m s.end old
     entered_one_ends known e =
-        rw (e ∙ ap (λ w. PartWork j r.begin ∷ w) listed) (falls_enter (level (length m.nodes.now) s'.end j 18446744073709551616) (level (length m.nodes.now) s.end 0 0) (cost m s.end old)
+        rw e (falls_enter (level (length m.nodes.now) s'.end j 18446744073709551616) (level (length m.nodes.now) s.end 0 0) (cost m s'.end mid) (cost m s.end old) mid_costs
         (level_end (length m.nodes.now) s.end s'.end 0 0 j 18446744073709551616 (omega (arith, h.end, h.lands.below)) (omega arith) (omega arith)))
 
     pub entered_run_ends : j < length m.nodes.now → n < 18446744073709551616 → new ≡ Elements j n r.begin ∷ mid → cost m s'.end new ≤ power (level (length m.nodes.now) s.end 0 0) + cost m s.end old
     entered_run_ends known few e =
-        rw (e ∙ ap (λ w. Elements j n r.begin ∷ w) listed) (falls_enter (level (length m.nodes.now) s'.end (j + 1) n) (level (length m.nodes.now) s.end 0 0) (cost m s.end old)
+        rw e (falls_enter (level (length m.nodes.now) s'.end (j + 1) n) (level (length m.nodes.now) s.end 0 0) (cost m s'.end mid) (cost m s.end old) mid_costs
         (level_end (length m.nodes.now) s.end s'.end 0 0 (j + 1) n (omega (arith, h.end, h.lands.below)) (omega arith) (omega arith)))
 
     module _ {key : KeyExpr} (is : target ≡ EntriesOf key) (e : new ≡ Entries key j n r.begin false ∷ mid) where
       pub entered_entries : TurnLeads m (Entering m target j n z) (stage s met old) (stage s' met' new)
       entered_entries =
-          let whole : new ≡ Entries key j n r.begin false ∷ Leave (r.begin + r.size) s.end ∷ old = e ∙ ap (λ w. Entries key j n r.begin false ∷ w) listed in
+          let whole : new ≡ Entries key j n r.begin false ∷ left_first (r.begin + r.size) s.end old = e ∙ ap (λ w. Entries key j n r.begin false ∷ w) listed in
           record {
-            keeps = ordered new (ap pending_in whole) (ap regions_in whole);
+            keeps = ordered new (ap pending_in e ∙ mid_pending) (ap regions_in e ∙ mid_regions);
             leads = λ seen a. (
               seen,
-              agreed new (ap pending_in whole) (ap regions_in whole) a,
-              λ o q. entering (rw is (enter_entries m (rw is at h.region) h.lands.above h.lands.below h.lands.aligned (allows a h.deep) lt (moved whole q))),
+              agreed new (ap pending_in e ∙ mid_pending) (ap regions_in e ∙ mid_regions) a,
+              λ o q. entering (rw is (enter_entries m (rw is at h.region) h.lands.above h.lands.below h.lands.aligned (allows a h.deep) lt (moved whole (left_pending m (r.begin + r.size) s.end old) q))),
             );
           }
 
@@ -242,5 +295,5 @@ module _ (m : Checker) {target : PointeeKind} (j n : ℕ) (z : ℤ) (s s' : Rang
 
       pub entered_entries_ends : j < length m.nodes.now → n < 18446744073709551616 → cost m s'.end new ≤ power (level (length m.nodes.now) s.end 0 0) + cost m s.end old
       entered_entries_ends known few =
-          rw (e ∙ ap (λ w. Entries key j n r.begin false ∷ w) listed) (falls_enter (level (length m.nodes.now) s'.end (j + 1) n) (level (length m.nodes.now) s.end 0 0) (cost m s.end old)
+          rw e (falls_enter (level (length m.nodes.now) s'.end (j + 1) n) (level (length m.nodes.now) s.end 0 0) (cost m s'.end mid) (cost m s.end old) mid_costs
           (level_end (length m.nodes.now) s.end s'.end 0 0 (j + 1) n (omega (arith, h.end, h.lands.below)) (omega arith) (omega arith)))

@@ -12,7 +12,7 @@ use Rattle.archive_schema.specs.declared.plan.Node.{Node}
 use Rattle.archive_schema.specs.declared.check.Checker.{Checker}
 use Rattle.archive_check.specs.declared.context.range.Region.{Region}
 use Rattle.archive_schema.specs.declared.check.worklist.Work.{Work}
-use Rattle.archive_schema.specs.declared.check.worklist.Work.TheVariants.{Part as PartWork, Elements, Entries, Leave}
+use Rattle.archive_schema.specs.declared.check.worklist.Work.TheVariants.{Part as PartWork, Elements, Entries}
 use Rattle.archive_check.specs.context.Ranges.{RangeState, pop_answer, popped}
 use Rattle.archive_check.specs.context.EnteredRegions.{NotEntered, not_sized, not_within, not_aligned, not_allowed, Enters, EntersNot}
 use Rattle.archive_check.specs.Tour.{Seen}
@@ -22,6 +22,7 @@ use Rattle.archive_check.specs.Words.BoundedSizes.{times}
 use Rattle.archive_schema.specs.check.Runs.{RegionIs, unit_size, unit_align, EnterRuns, enter_too_large, enter_outside, enter_unaligned, enter_too_deep}
 use Rattle.archive_schema.specs.check.LoopInvariant.{Stage, stage, PointeeFits, Ready, RegionIsLegalHere}
 use Rattle.archive_schema.specs.check.Through.{Stops, Passed, PassesFrom, TestsFrom, region_rule, contents_rule}
+use Rattle.archive_schema.specs.check.Lists.{left_first}
 use Rattle.archive_schema.specs.check.Entered.{Entered, EntersFrom, LeavesFrom}
 use Rattle.archive_schema.specs.check.Turns.{ComesInto}
 use Rattle.archive_schema.proofs.check.EnteredRegions.{passes_free, region_through, region_left, region_stops, region_leads, entered_one, entered_run, entered_entries, entered_entries_ready, entered_entries_ends, entered_one_ready, entered_run_ready, entered_one_ends, entered_run_ends}
@@ -134,48 +135,48 @@ passed_at_once {result = None} h ready small contents left = record { some = tt;
 pub no_room_there : {m : Checker} {target : PointeeKind} {j n : ℕ} {z : ℤ} {x y : Stage} {fault : Error} → fault ≡ OutOfMemory → ComesInto m target j n z x y None fault
 no_room_there is = record { some = tt; inside = tt; none = inl is }
 
-module _ {m : Checker} {target : PointeeKind} {j n : ℕ} {z : ℤ} {x x1 x2 : Stage} {r : Region} {e : Error} (h : EntersFrom m target j n z x x1 (Some r) e) (ready : Ready m x.range x.work) (small : r.begin < 18446744073709551616) (same : x2 ≡ x1) (mid new : List Work) (list : mid ≡ Leave r.outer_start r.outer_end ∷ x2.work) where
+module _ {m : Checker} {target : PointeeKind} {j n : ℕ} {z : ℤ} {x x1 x2 : Stage} {r : Region} {e : Error} (h : EntersFrom m target j n z x x1 (Some r) e) (ready : Ready m x.range x.work) (small : r.begin < 18446744073709551616) (same : x2 ≡ x1) (lt : 0 < r.size) (mid new : List Work) (list : mid ≡ left_first r.outer_start r.outer_end x2.work) where
   within : Entered m target j n z x.range x2.range r
   within = let range = ap (λ q. q.range) same in rw range h.entered
 
-  behind : mid ≡ Leave r.outer_start r.outer_end ∷ x.work
-  behind = list ∙ ap (λ w. Leave r.outer_start r.outer_end ∷ w) (ap (λ q. q.work) same ∙ h.list)
+  behind : mid ≡ left_first r.outer_start r.outer_end x.work
+  behind = list ∙ ap (left_first r.outer_start r.outer_end) (ap (λ q. q.work) same ∙ h.list)
 
   unmet : x2.met ≡ x.met
   unmet = ap (λ q. q.met) same ∙ h.positions
 
-  pub comes_into_one : {result : Option (Unit {0})} {fault : Error} → target ≡ One → 0 < r.size → PointeeFits m target j n → OnSome result (new ≡ PartWork j r.begin ∷ mid) → IfNone result (fault ≡ OutOfMemory) → ComesInto m target j n z x (stage x2.range x2.met new) result fault
-  comes_into_one {result = Some u} is lt fits some none = record {
+  pub comes_into_one : {result : Option (Unit {0})} {fault : Error} → target ≡ One → PointeeFits m target j n → OnSome result (new ≡ PartWork j r.begin ∷ mid) → IfNone result (fault ≡ OutOfMemory) → ComesInto m target j n z x (stage x2.range x2.met new) result fault
+  comes_into_one {result = Some u} is fits some none = record {
     some = record {
-      ready = entered_one_ready m j n z x.range x2.range x.met x2.met x.work mid r within unmet behind new lt is ready (fits.one is) some;
-      leads = entered_one m j n z x.range x2.range x.met x2.met x.work mid r within unmet behind new lt is some;
-      ends = omega (arith, entered_one_ends m j n z x.range x2.range x.met x2.met x.work mid r within unmet behind new lt fits.known some);
+      ready = entered_one_ready m j n z x.range x2.range x.met x2.met x.work mid r within unmet lt behind new is ready (fits.one is) some;
+      leads = entered_one m j n z x.range x2.range x.met x2.met x.work mid r within unmet lt behind new is some;
+      ends = omega (arith, entered_one_ends m j n z x.range x2.range x.met x2.met x.work mid r within unmet lt behind new fits.known some);
     };
     inside = (r.begin, within.lands.target, small);
     none = tt;
   }
-  comes_into_one {result = None} is lt fits some none = no_room_there none
+  comes_into_one {result = None} is fits some none = no_room_there none
 
-  pub comes_into_run : {result : Option (Unit {0})} {fault : Error} → target ≡ Run → 0 < r.size → PointeeFits m target j n → OnSome result (new ≡ Elements j n r.begin ∷ mid) → IfNone result (fault ≡ OutOfMemory) → ComesInto m target j n z x (stage x2.range x2.met new) result fault
-  comes_into_run {result = Some u} is lt fits some none = record {
+  pub comes_into_run : {result : Option (Unit {0})} {fault : Error} → target ≡ Run → PointeeFits m target j n → OnSome result (new ≡ Elements j n r.begin ∷ mid) → IfNone result (fault ≡ OutOfMemory) → ComesInto m target j n z x (stage x2.range x2.met new) result fault
+  comes_into_run {result = Some u} is fits some none = record {
     some = record {
-      ready = entered_run_ready m j n z x.range x2.range x.met x2.met x.work mid r within unmet behind new lt is ready fits.few some;
-      leads = entered_run m j n z x.range x2.range x.met x2.met x.work mid r within unmet behind new lt is some;
-      ends = omega (arith, entered_run_ends m j n z x.range x2.range x.met x2.met x.work mid r within unmet behind new lt fits.known fits.few some);
+      ready = entered_run_ready m j n z x.range x2.range x.met x2.met x.work mid r within unmet lt behind new is ready fits.few some;
+      leads = entered_run m j n z x.range x2.range x.met x2.met x.work mid r within unmet lt behind new is some;
+      ends = omega (arith, entered_run_ends m j n z x.range x2.range x.met x2.met x.work mid r within unmet lt behind new fits.known fits.few some);
     };
     inside = (r.begin, within.lands.target, small);
     none = tt;
   }
-  comes_into_run {result = None} is lt fits some none = no_room_there none
+  comes_into_run {result = None} is fits some none = no_room_there none
 
-  pub comes_into_entries : {result : Option (Unit {0})} {fault : Error} {key : KeyExpr} → target ≡ EntriesOf key → 0 < r.size → PointeeFits m target j n → OnSome result (new ≡ Entries key j n r.begin false ∷ mid) → IfNone result (fault ≡ OutOfMemory) → ComesInto m target j n z x (stage x2.range x2.met new) result fault
-  comes_into_entries {result = Some u} is lt fits some none = record {
+  pub comes_into_entries : {result : Option (Unit {0})} {fault : Error} {key : KeyExpr} → target ≡ EntriesOf key → PointeeFits m target j n → OnSome result (new ≡ Entries key j n r.begin false ∷ mid) → IfNone result (fault ≡ OutOfMemory) → ComesInto m target j n z x (stage x2.range x2.met new) result fault
+  comes_into_entries {result = Some u} is fits some none = record {
     some = record {
-      ready = entered_entries_ready m j n z x.range x2.range x.met x2.met x.work mid r within unmet behind new lt is some ready fits.few;
-      leads = entered_entries m j n z x.range x2.range x.met x2.met x.work mid r within unmet behind new lt is some;
-      ends = omega (arith, entered_entries_ends m j n z x.range x2.range x.met x2.met x.work mid r within unmet behind new lt is some fits.known fits.few);
+      ready = entered_entries_ready m j n z x.range x2.range x.met x2.met x.work mid r within unmet lt behind new is some ready fits.few;
+      leads = entered_entries m j n z x.range x2.range x.met x2.met x.work mid r within unmet lt behind new is some;
+      ends = omega (arith, entered_entries_ends m j n z x.range x2.range x.met x2.met x.work mid r within unmet lt behind new is some fits.known fits.few);
     };
     inside = (r.begin, within.lands.target, small);
     none = tt;
   }
-  comes_into_entries {result = None} is lt fits some none = no_room_there none
+  comes_into_entries {result = None} is fits some none = no_room_there none

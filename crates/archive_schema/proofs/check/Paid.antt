@@ -1,5 +1,5 @@
 -- What is paid for the regions that a check enters.
-use Rattle.std.proofs.Common.{◌≡◌, ℤ, inl, inr, ℕ, zero, suc, ap, ◌∙◌, ◌+◌, ◌-◌, ◌*◌, ◌<◌, ◌≤◌, arith, List, ◌∷◌, length, Option, Some, None, OnSome, IfNone, unwrap_or, slice_index, Bor}
+use Rattle.std.proofs.Common.{◌≡◌, ℤ, inl, inr, ℕ, zero, suc, ap, ◌∙◌, ◌+◌, ◌-◌, ◌*◌, ◌<◌, ◌≤◌, arith, List, [], ◌∷◌, length, Option, Some, None, OnSome, IfNone, unwrap_or, slice_index, Bor}
 use Rattle.std.proofs.Math.Nat.{mul-le-mul_right, mul-le-mul_left}
 use Rattle.std.specs.Prelude.{true}
 use Rattle.archive_check.specs.declared.format.expr.Key.{Key as KeyExpr}
@@ -19,7 +19,7 @@ use Rattle.archive_check.specs.Words.Elements.{span, IsAt}
 use Rattle.archive_schema.specs.plan.SoundPlans.{IsSound}
 use Rattle.archive_schema.specs.plan.PackedPlans.{size_at, parts_size, variants_size, ArePacked}
 use Rattle.archive_schema.specs.check.Runs.{IsNode, IsVariant, RegionIs, pointer_bytes}
-use Rattle.archive_schema.specs.check.Lists.{IsMore}
+use Rattle.archive_schema.specs.check.Lists.{left_first, IsMore}
 use Rattle.archive_schema.specs.check.LoopInvariant.{PartFits}
 use Rattle.archive_schema.specs.check.Entered.{Entered}
 use Rattle.archive_schema.specs.check.Paid.{bytes_of, bytes_in, bytes_of_parts, bytes_of_elements, bytes_of_entries, PaysFrom}
@@ -38,14 +38,23 @@ pub pays_more : (m : Checker) (s : RangeState) (w w' : List Work) (entry : Work)
 pays_more m s w w' entry (inl (some, e)) = omega (arith, ap (bytes_in m) e)
 pays_more m s w w' entry (inr (none, e)) = omega (arith, ap (bytes_in m) e)
 
+-- a region that is left first gives back no more than its outer range has behind it
+left_bytes : (m : Checker) (a b : ℕ) (work : List Work) → bytes_in m (left_first a b work) ≤ b - a + bytes_in m work
+left_bytes m a b [] = omega arith
+left_bytes m a b (entry ∷ work) = by_entry entry
+  where
+    by_entry : (entry : Work) → bytes_in m (left_first a b (entry ∷ work)) ≤ b - a + bytes_in m (entry ∷ work)
+    by_entry (Leave x y n) = omega arith
+    by_entry entry = omega arith
+
 -- a region is entered, and is to be left
 pub listed_pays : (m : Checker) {target : PointeeKind} {j n : ℕ} {z : ℤ} {s s1 : RangeState} {r : Region} (s2 : RangeState) (w w2 w3 : List Work) (entry : Work) → Entered m target j n z s s1 r → s1.pushes ≤ s.pushes + 1 → s2 ≡ s1 → bytes_of m entry ≤ r.size
-    → w2 ≡ Leave r.outer_start r.outer_end ∷ w → PaysFrom m (bytes_of m entry) s2 w2 s2 w3 → PaysFrom m 4 s w s2 w3
-listed_pays m s2 w w2 w3 entry h pushes same few left pays =
+    → w2 ≡ left_first r.outer_start r.outer_end w → PaysFrom m (bytes_of m entry) s2 w2 s2 w3 → PaysFrom m 4 s w s2 w3
+listed_pays m {r = r} s2 w w2 w3 entry h pushes same few left pays =
     let p = ap (λ (q : RangeState). q.pushes) same in
     let a = ap (λ (q : RangeState). q.start) same in
     let b = ap (λ (q : RangeState). q.end) same in
-    omega (arith, pays, pushes, few, ap (bytes_in m) left, p, a, b, h.start, h.end, h.lands.above, h.lands.below, h.outer_start, h.outer_end)
+    omega (arith, pays, pushes, few, ap (bytes_in m) left, left_bytes m r.outer_start r.outer_end w, p, a, b, h.start, h.end, h.lands.above, h.lands.below, h.outer_start, h.outer_end)
 
 -- what a node takes
 pub node_size : {m : Checker} {i p : ℕ} → (f : PartFits m i p) → size_at m.nodes.now i ≡ f.size

@@ -21,13 +21,13 @@ use Rattle.archive_schema.specs.check.Lists.{IsMore}
 use Rattle.archive_check.specs.Outcomes.{Outcome, refused}
 use Rattle.archive_check.specs.Words.Elements.{IsAt}
 use Rattle.archive_schema.specs.check.Runs.{IsNode, IsVariant, IsNoVariant, Takes, pointee_count, run_tag, run_null}
-use Rattle.archive_schema.specs.check.LoopInvariant.{Stage, stage, Ready, PartIsLegalHere, LeadsNowhere, Listing, Entering, Following, TurnLeads, TurnRefuses, IsStopped, stops, pending_in, power, level, cost}
+use Rattle.archive_schema.specs.check.LoopInvariant.{Stage, stage, Ready, PartIsLegalHere, LeadsNowhere, Listing, Entering, Following, TurnLeads, TurnRefuses, IsStopped, ListFits, stops, pending_in, power, level, cost}
 use Rattle.archive_schema.specs.check.Entered.{LeavesFrom}
-use Rattle.archive_schema.specs.check.Turns.{Turned, TurnsFrom, ComesInto}
+use Rattle.archive_schema.specs.check.Turns.{Turned, TurnsFrom, ComesInto, with_entry}
 use Rattle.archive_schema.proofs.check.OrderlyContexts.{orderly_levels}
 use Rattle.archive_schema.proofs.check.TurnRules.{turn_record, turn_choice, turn_array, turn_pointer, turn_shared, turn_weak}
 use Rattle.archive_schema.proofs.check.TurnsEnd.{level_same, falls_none, falls_under, falls_shared}
-use Rattle.archive_schema.proofs.check.TurnInvariants.{node_fits, record_fits, variant_fits, parts_less, elements_less, node_leads, node_refuses, elements_free_leads, part_ready, part_leads, part_ends, element_ready, element_leads, element_ends, leave_leads, leave_refuses, finish_leads, finish_refuses}
+use Rattle.archive_schema.proofs.check.TurnInvariants.{node_fits, record_fits, variant_fits, parts_less, elements_less, node_leads, node_refuses, elements_free_leads, part_ready, part_leads, part_ends, element_ready, element_leads, element_ends, inner_leads, leave_leads, leave_refuses, finish_leads, finish_refuses}
 use Rattle.archive_schema.proofs.check.LegalParts.{fits_from, skip_all, skip_leads, skip_ready, skip_costs}
 use Rattle.archive_schema.proofs.check.LegalElements.{pass_all, pass_leads, pass_ready, pass_costs}
 
@@ -225,14 +225,35 @@ opens_element {m = m} {s = s} {met = met} {old = old} {rest = rest} {j = j} {n =
     (leads_then m (Listing m) (stage s met (Elements j n p ∷ old)) (stage s met (Elements j (n - c) (p + c * z) ∷ old)) (stage s met (PartWork j (p + c * z) ∷ rest)) (pass_leads m j z takes old s n p c (omega arith) met passed)
     (element_leads m s met old rest j (n - c) (p + c * z) z takes.node from_c (omega arith) takes.at (λ v q. let same : Some z ≡ Some v = sym takes.size_is ∙ q in cc) more))
 
-pub leaves : {m : Checker} {s : RangeState} {met : Positions} {old : List Work} {a b : ℕ} {y : Stage} {r : Option (Unit {0})} {fault : Error}
-    → Ready m s (Leave a b ∷ old) → LeavesFrom a b (stage s met old) y r fault → TurnsFrom m (Listing m) (cost m s.end (Leave a b ∷ old)) (stage s met (Leave a b ∷ old)) y r fault
-leaves {m = m} {s = s} {met = met} {old = old} {a = a} {b = b} {y = y} {r = Some u} ready h = turn_taken (record {
-  ready = rw (h.range, h.list) (record { below = ready.fits.1; fits = ready.fits.2 });
-  leads = rw h.list (leave_leads m s met old y.range y.met a b h.range h.positions);
-  ends = rw (h.range, h.list) (omega arith);
+-- regions are left, of which the last and n in it are still to be left
+pub record AreLeaving (m : Checker) (x : Stage) (a b n : ℕ) (y : Stage) : Type 0 where
+  pub below : y.range.end ≤ a
+  pub leads : TurnLeads m (Listing m) x (with_entry (Leave a b n) y)
+
+pub leaving_begins : {m : Checker} {x : Stage} {a b n k : ℕ} → k ≡ n → Ready m x.range (Leave a b n ∷ x.work) → AreLeaving m (with_entry (Leave a b n) x) a b k x
+leaving_begins all ready = rw all (record { below = omega (arith, ready.fits.0); leads = record { keeps = λ h. h; leads = λ seen a. (seen, a, λ o r. r) } })
+
+pub leaving_next : {m : Checker} {x y z : Stage} {a b n k : ℕ} {u : Unit {0}} {fault : Error} → k < n → AreLeaving m x a b (n - k) y → LeavesFrom a a y z (Some u) fault → AreLeaving m x a b (n - (k + 1)) z
+leaving_next {m = m} {x = x} {y = y} {z = z} {a = a} {b = b} {n = n} {k = k} lt h left =
+    let one : n - k ≡ n - (k + 1) + 1 = omega arith in
+    record {
+      below = rw left.range (omega arith);
+      leads = leads_then m (Listing m) x (with_entry (Leave a b (n - (k + 1) + 1)) y) (with_entry (Leave a b (n - (k + 1))) z) (rw one at h.leads)
+          (rw left.list (inner_leads m y.range y.met y.work z.range z.met a b (n - (k + 1)) left.range left.positions));
+    }
+
+pub leaving_stops : {m : Checker} {x y z z' : Stage} {a b c n most : ℕ} {fault : Error} → AreLeaving m x a b n y → LeavesFrom a c y z None fault → TurnsFrom m (Listing m) most x z' None fault
+leaving_stops {m = m} {x = x} {y = y} {a = a} {b = b} {n = n} {fault = fault} h left =
+    record { some = tt; none = refuses_then m (Listing m) x (with_entry (Leave a b n) y) fault h.leads (leave_refuses m y.range y.met y.work a b n fault h.below left.none) }
+
+pub leaving_ends : {m : Checker} {x y z : Stage} {a b n most : ℕ} {r : Option (Unit {0})} {fault : Error}
+    → n ≡ 0 → AreLeaving m x a b n y → b ≤ length m.bytes.now → ListFits m b y.work → 1 + cost m b y.work ≤ most → LeavesFrom a b y z r fault → TurnsFrom m (Listing m) most x z r fault
+leaving_ends {m = m} {x = x} {y = y} {z = z} {a = a} {b = b} {n = n} {r = Some u} last h below fits few left = turn_taken (record {
+  ready = rw (left.range, left.list) (record { below = below; fits = fits });
+  leads = leads_then m (Listing m) x (with_entry (Leave a b 0) y) z (rw last at h.leads) (rw left.list (leave_leads m y.range y.met y.work z.range z.met a b left.range left.positions));
+  ends = rw (left.range, left.list) (omega (arith, few));
 })
-leaves {m = m} {s = s} {met = met} {old = old} {a = a} {b = b} {r = None} {fault = fault} ready h = record { some = tt; none = leave_refuses m s met old a b fault ready.fits.0 h.none }
+leaving_ends {r = None} last h below fits few left = leaving_stops h left
 
 pub finishes : {m : Checker} {s s' : RangeState} {met met' : Positions} {old : List Work} {k t : ℕ} {z : ℤ} {u : Unit {0}} {fault : Error}
     → Ready m s (Finish k t ∷ old) → z ≡ pos t → s' ≡ s → met' ≡ finished met z → TurnsFrom m (Listing m) (cost m s.end (Finish k t ∷ old)) (stage s met (Finish k t ∷ old)) (stage s' met' old) (Some u) fault

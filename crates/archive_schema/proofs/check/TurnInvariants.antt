@@ -1,5 +1,5 @@
 -- What each turn of a check's loop keeps.
-use Rattle.std.proofs.Common.{◌≡◌, inl, inr, ℕ, zero, suc, ℤ, pos, sym, ap, ◌∙◌, ◌+◌, ◌-◌, ◌*◌, ◌<◌, ◌≤◌, max, arith, List, [], ◌∷◌, length, slice_index, slice_index_or, Bor, Some, Err}
+use Rattle.std.proofs.Common.{◌≡◌, inl, inr, ℕ, zero, suc, add-one, ℤ, pos, sym, ap, ◌∙◌, ◌+◌, ◌-◌, ◌*◌, ◌<◌, ◌≤◌, max, arith, List, [], ◌∷◌, length, slice_index, slice_index_or, Bor, Option, Some, Err}
 use Rattle.archive_check.specs.declared.format.error.Error.{Error}
 use Rattle.archive_schema.specs.declared.plan.NodeKind.{NodeKind}
 use Rattle.archive_schema.specs.declared.plan.NodeKind.TheVariants.{Free, Record, Choice}
@@ -9,7 +9,8 @@ use Rattle.archive_schema.specs.declared.plan.Span.{Span}
 use Rattle.archive_schema.specs.declared.check.Checker.{Checker}
 use Rattle.archive_schema.specs.declared.check.worklist.Work.{Work}
 use Rattle.archive_schema.specs.declared.check.worklist.Work.TheVariants.{Part as PartWork, Parts, Elements, Leave, Finish}
-use Rattle.archive_check.specs.context.Ranges.{RangeState, pop_answer, popped}
+use Rattle.archive_check.specs.Depth.{inside}
+use Rattle.archive_check.specs.context.Ranges.{RangeState, one_more, pop_answer, popped}
 use Rattle.archive_check.specs.context.PositionStates.{Positions, finished, finish_answer}
 use Rattle.archive_check.specs.Tour.{Seen}
 use Rattle.archive_check.specs.Trail.{Fault}
@@ -30,6 +31,13 @@ use Rattle.archive_check.proofs.Elements.{same_at, span_next}
 split_count : (n y : ℕ) → 0 < n → n * y ≡ y + (n - 1) * y
 split_count zero y h = absurd (omega arith)
 split_count (suc k) y h = let e : suc k - 1 ≡ k = omega arith in rw e (omega arith)
+
+later : (n r : ℕ) → 1 + (n + 1) + r ≡ 1 + (1 + n + r)
+later n r = omega arith
+
+-- what comes of a region more that is left first
+left_later : {m : Checker} {pd : List ℕ} {d : Option ℕ} {e e' x y n s s' : ℕ} {k : Seen} {o : Outcome} {w : List Work} → ListRuns m pd (one_more d) e' (Leave x y n ∷ w) s' k o → ListRuns m pd d e (Leave x y (n + 1) ∷ w) s k o
+left_later {d = d} {n = n} (list_leave same r) = list_leave (rw add-one (inside_more d ∙ ap inside same)) r
 
 module _ (m : Checker) (s : RangeState) (met : Positions) where
   -- a turn that meets nothing, and enters and leaves nothing
@@ -130,14 +138,25 @@ module _ (m : Checker) (s : RangeState) (met : Positions) where
     pub elements_free_leads : (j n p : ℕ) → IsNode m j Free → Ready m s (Elements j n p ∷ old) → TurnLeads m (Listing m) (stage s met (Elements j n p ∷ old)) (stage s met old)
     elements_free_leads j n p is ready = record { keeps = λ h. h; leads = λ seen a. (seen, a, λ o r. turn_elements_free m is ready.fits.0.takes ready.fits.0.fits r) }
 
-    pub leave_leads : (s' : RangeState) (met' : Positions) (x y : ℕ) → s' ≡ popped s x y → met' ≡ met → TurnLeads m (Listing m) (stage s met (Leave x y ∷ old)) (stage s' met' old)
+    -- one of several regions is left, whose range is overwritten at once
+    pub inner_leads : (s' : RangeState) (met' : Positions) (x y n : ℕ) → s' ≡ popped s x x → met' ≡ met → TurnLeads m (Listing m) (stage s met (Leave x y (n + 1) ∷ old)) (stage s' met' (Leave x y n ∷ old))
+    inner_leads s' met' x y n e same = record {
+      keeps = λ h. rw (e, same) (orderly_outside (1 + n + regions_in old) (rw (later n (regions_in old)) at h));
+      leads = λ seen a. (
+        seen,
+        rw (e, same) (agrees_outside (1 + n + regions_in old) (rw (later n (regions_in old)) at a)),
+        λ o r. left_later (rw e at r),
+      );
+    }
+
+    pub leave_leads : (s' : RangeState) (met' : Positions) (x y : ℕ) → s' ≡ popped s x y → met' ≡ met → TurnLeads m (Listing m) (stage s met (Leave x y 0 ∷ old)) (stage s' met' old)
     leave_leads s' met' x y e same = record {
       keeps = λ h. rw (e, same) (orderly_outside (regions_in old) h);
       leads = λ seen a. (seen, rw (e, same) (agrees_outside (regions_in old) a), λ o r. list_leave (inside_more s.depth) (rw e at r));
     }
 
-    pub leave_refuses : (x y : ℕ) (e : Error) → s.end ≤ x → pop_answer s x ≡ Err e → TurnRefuses (Listing m) (stage s met (Leave x y ∷ old)) e
-    leave_refuses x y e le is = inr (λ h. absurd (let fine = taken_back s x le (λ d same. omega (arith, h.few d same)) in let clash = sym is ∙ fine in cc))
+    pub leave_refuses : (x y n : ℕ) (e : Error) → s.end ≤ x → pop_answer s x ≡ Err e → TurnRefuses (Listing m) (stage s met (Leave x y n ∷ old)) e
+    leave_refuses x y n e le is = inr (λ h. absurd (let fine = taken_back s x le (λ d same. omega (arith, h.few d same)) in let clash = sym is ∙ fine in cc))
 
     pub finish_leads : (s' : RangeState) (met' : Positions) (k t : ℕ) (z : ℤ) → z ≡ pos t → s' ≡ s → met' ≡ finished met z → TurnLeads m (Listing m) (stage s met (Finish k t ∷ old)) (stage s' met' old)
     finish_leads s' met' k t z at same e = record {

@@ -1,5 +1,5 @@
 -- Each turn of a check's loop is a rule of the run over the plan.
-use Rattle.std.proofs.Common.{◌≡◌, ◌≢◌, ℕ, ℤ, pos, ◌+ℤ◌, refl, sym, ap, ◌+◌, ◌-◌, ◌*◌, ◌%◌, ◌<◌, ◌≤◌, arith, List, [], ◌∷◌, length, Bool, true, false, Option, Some, None, slice_index, Bor}
+use Rattle.std.proofs.Common.{◌≡◌, ◌≢◌, ℕ, ℤ, pos, ◌+ℤ◌, refl, sym, ap, ◌∙◌, add-one, ◌+◌, ◌-◌, ◌*◌, ◌%◌, ◌<◌, ◌≤◌, arith, List, [], ◌∷◌, length, Bool, true, false, Option, Some, None, slice_index, Bor}
 use Rattle.std.specs.FinMap.{get, insert}
 use Rattle.archive_check.specs.declared.format.expr.Key.{Key as KeyExpr}
 use Rattle.archive_schema.specs.declared.plan.PointeeKind.{PointeeKind}
@@ -17,7 +17,8 @@ use Rattle.archive_check.specs.Tour.{Seen}
 use Rattle.archive_check.specs.Outcomes.{Outcome, done, refused}
 use Rattle.archive_check.specs.Trail.{Fault}
 use Rattle.archive_check.specs.Words.Elements.{IsAt}
-use Rattle.archive_schema.specs.check.Runs.{IsNode, Takes, EntryTakes, before_at, RegionIs, OrderRuns, EntriesRun, pointee_count, pointee_length, entry_for, run_record, run_choice, run_array, run_pointer, run_shared, run_weak, FollowRuns, follow_new, parts_end, parts_next, parts_stop, elements_end, elements_next, elements_free, elements_stop, entries_end, entries_key, entries_value, entries_next, EnterRuns, enter_within, enter_stop, contents_one, contents_run, contents_entries, ListRuns, list_end, list_part, list_part_stop, list_parts, list_parts_stop, list_elements, list_elements_stop, list_entries, list_entries_stop, list_leave, list_finish}
+use Rattle.archive_schema.specs.check.Lists.{left_first}
+use Rattle.archive_schema.specs.check.Runs.{deeper, IsNode, Takes, EntryTakes, before_at, RegionIs, OrderRuns, EntriesRun, pointee_count, pointee_length, entry_for, run_record, run_choice, run_array, run_pointer, run_shared, run_weak, FollowRuns, follow_new, parts_end, parts_next, parts_stop, elements_end, elements_next, elements_free, elements_stop, entries_end, entries_key, entries_value, entries_next, EnterRuns, enter_within, enter_stop, contents_one, contents_run, contents_entries, ListRuns, list_end, list_part, list_part_stop, list_parts, list_parts_stop, list_elements, list_elements_stop, list_entries, list_entries_stop, list_leave, list_finish}
 use Rattle.archive_schema.specs.check.LoopInvariant.{Then, and_then, stops}
 use Rattle.archive_schema.proofs.plan.PlanSizes.{entry_sizes}
 
@@ -99,16 +100,32 @@ module _ (m : Checker) where
   outer_same : {pd : List ℕ} {d outer : Option ℕ} {e s : ℕ} {k : Seen} {o : Outcome} {w : List Work} → Allows d 1 → inside d ≡ inside outer → ListRuns m pd outer e w s k o → ListRuns m pd d e w s k o
   outer_same {d = d} {outer = outer} deep same r = rw (inside_same d outer deep same) at r
 
-  pub enter_one : {pd : List ℕ} {d : Option ℕ} {e j n z align t s : ℕ} {k : Seen} {o : Outcome} {w : List Work} → RegionIs m One j n (Some z) align → s ≤ t → t + z ≤ e → t % align ≡ 0 → Allows d 1 → 0 < z → ListRuns m pd (inside d) t (PartWork j t ∷ Leave (t + z) e ∷ w) s k o → Then m pd d e (EnterRuns m pd d e One j n (pos t) s k) w o
-  enter_one reg above below aligned deep lt (list_part v (list_leave same r)) = and_then (enter_within reg refl above below aligned deep (contents_one lt v)) (outer_same deep same r)
+  -- a region that is left first is left, and then comes the list that it was put on
+  left_alone : {pd : List ℕ} {d : Option ℕ} {e a t s : ℕ} {k : Seen} {o : Outcome} {w : List Work} → Allows d 1 → ListRuns m pd (inside d) t (Leave a e 0 ∷ w) s k o → ListRuns m pd d e w a k o
+  left_alone deep (list_leave same r) = outer_same deep same r
+
+  left_with_outer : {pd : List ℕ} {d : Option ℕ} {e a t s x y n : ℕ} {k : Seen} {o : Outcome} {w : List Work} → Allows d 1 → ListRuns m pd (inside d) t (Leave x y (n + 1) ∷ w) s k o → ListRuns m pd d e (Leave x y n ∷ w) a k o
+  left_with_outer {d = d} {n = n} deep (list_leave {outer = outer} same r) =
+      let one_more : inside d ≡ inside (deeper n outer) = same ∙ ap (λ (l : ℕ). deeper l outer) (add-one n) in list_leave (sym (inside_same d (deeper n outer) deep one_more)) r
+
+  left_runs : {pd : List ℕ} {d : Option ℕ} {e a t s : ℕ} {k : Seen} {o : Outcome} (w : List Work) → Allows d 1 → ListRuns m pd (inside d) t (left_first a e w) s k o → ListRuns m pd d e w a k o
+  left_runs [] deep r = left_alone deep r
+  left_runs {pd = pd} {d = d} {e = e} {a = a} {t = t} {s = s} {k = k} {o = o} (entry ∷ w) deep r = by_entry entry r
+    where
+      by_entry : (entry : Work) → ListRuns m pd (inside d) t (left_first a e (entry ∷ w)) s k o → ListRuns m pd d e (entry ∷ w) a k o
+      by_entry (Leave x y n) r = left_with_outer deep r
+      by_entry entry r = left_alone deep r
+
+  pub enter_one : {pd : List ℕ} {d : Option ℕ} {e j n z align t s : ℕ} {k : Seen} {o : Outcome} {w : List Work} → RegionIs m One j n (Some z) align → s ≤ t → t + z ≤ e → t % align ≡ 0 → Allows d 1 → 0 < z → ListRuns m pd (inside d) t (PartWork j t ∷ left_first (t + z) e w) s k o → Then m pd d e (EnterRuns m pd d e One j n (pos t) s k) w o
+  enter_one {w = w} reg above below aligned deep lt (list_part v r) = and_then (enter_within reg refl above below aligned deep (contents_one lt v)) (left_runs w deep r)
   enter_one reg above below aligned deep lt (list_part_stop v) = stops (enter_stop reg refl above below aligned deep (contents_one lt v))
 
-  pub enter_run : {pd : List ℕ} {d : Option ℕ} {e j n z align t s : ℕ} {k : Seen} {o : Outcome} {w : List Work} → RegionIs m Run j n (Some z) align → s ≤ t → t + z ≤ e → t % align ≡ 0 → Allows d 1 → 0 < z → ListRuns m pd (inside d) t (Elements j n t ∷ Leave (t + z) e ∷ w) s k o → Then m pd d e (EnterRuns m pd d e Run j n (pos t) s k) w o
-  enter_run reg above below aligned deep lt (list_elements v (list_leave same r)) = and_then (enter_within reg refl above below aligned deep (contents_run lt v)) (outer_same deep same r)
+  pub enter_run : {pd : List ℕ} {d : Option ℕ} {e j n z align t s : ℕ} {k : Seen} {o : Outcome} {w : List Work} → RegionIs m Run j n (Some z) align → s ≤ t → t + z ≤ e → t % align ≡ 0 → Allows d 1 → 0 < z → ListRuns m pd (inside d) t (Elements j n t ∷ left_first (t + z) e w) s k o → Then m pd d e (EnterRuns m pd d e Run j n (pos t) s k) w o
+  enter_run {w = w} reg above below aligned deep lt (list_elements v r) = and_then (enter_within reg refl above below aligned deep (contents_run lt v)) (left_runs w deep r)
   enter_run reg above below aligned deep lt (list_elements_stop v) = stops (enter_stop reg refl above below aligned deep (contents_run lt v))
 
-  pub enter_entries : {pd : List ℕ} {d : Option ℕ} {e j n z align t s : ℕ} {k : Seen} {o : Outcome} {w : List Work} {key : KeyExpr} → RegionIs m (EntriesOf key) j n (Some z) align → s ≤ t → t + z ≤ e → t % align ≡ 0 → Allows d 1 → 0 < z → ListRuns m pd (inside d) t (Entries key j n t false ∷ Leave (t + z) e ∷ w) s k o → Then m pd d e (EnterRuns m pd d e (EntriesOf key) j n (pos t) s k) w o
-  enter_entries reg above below aligned deep lt (list_entries takes v (list_leave same r)) = and_then (enter_within reg refl above below aligned deep (contents_entries lt v)) (outer_same deep same r)
+  pub enter_entries : {pd : List ℕ} {d : Option ℕ} {e j n z align t s : ℕ} {k : Seen} {o : Outcome} {w : List Work} {key : KeyExpr} → RegionIs m (EntriesOf key) j n (Some z) align → s ≤ t → t + z ≤ e → t % align ≡ 0 → Allows d 1 → 0 < z → ListRuns m pd (inside d) t (Entries key j n t false ∷ left_first (t + z) e w) s k o → Then m pd d e (EnterRuns m pd d e (EntriesOf key) j n (pos t) s k) w o
+  enter_entries {w = w} reg above below aligned deep lt (list_entries takes v r) = and_then (enter_within reg refl above below aligned deep (contents_entries lt v)) (left_runs w deep r)
   enter_entries reg above below aligned deep lt (list_entries_stop takes v) = stops (enter_stop reg refl above below aligned deep (contents_entries lt v))
 
   -- a list that begins with the end of a shared position runs within it

@@ -44,8 +44,8 @@ falls_two a b c rest p q = omega (arith, power_falls a c p, power_falls b c q, p
 pub falls_none : (c rest : ℕ) → rest < power c + rest
 falls_none c rest = omega (arith, power_pos c)
 
-pub falls_enter : (a c rest : ℕ) → a < c → power a + (1 + rest) ≤ power c + rest
-falls_enter a c rest p = omega (arith, power_falls a c p, power_pos a)
+pub falls_enter : (a c more rest : ℕ) → more ≤ 1 + rest → a < c → power a + more ≤ power c + rest
+falls_enter a c more rest few p = omega (arith, power_falls a c p, power_pos a)
 
 pub falls_under : (x a c rest : ℕ) → x ≤ power a + rest → a < c → x < power c + rest
 falls_under x a c rest h p = omega (arith, power_falls a c p, power_pos a)

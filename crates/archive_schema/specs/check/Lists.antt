@@ -1,13 +1,24 @@
 -- The work list of a check.
 use denote.Triple.Both.{Both}
 use denote.Ref.{MutBor}
-use Rattle.std.specs.Prelude.{◌≡◌, ◌⊎◌, List, ◌∷◌, reverse}
+use Rattle.std.specs.Prelude.{◌≡◌, ◌⊎◌, ℕ, ◌+◌, ◌<◌, List, ◌∷◌, reverse}
 use Rattle.archive_schema.specs.declared.check.worklist.Work.{Work}
+use Rattle.archive_schema.specs.declared.check.worklist.Work.TheVariants.{Leave}
 use Rattle.archive_schema.specs.declared.check.worklist.Worklist.{Worklist}
 
 -- What is left, the next first.
 abbrev pub list_of : Worklist → List Work
 list_of work = reverse work.entries.items
+
+-- A region is to be left first, from a to b: with the region around it, if that one was to be left first.
+abbrev pub left_first : ℕ → ℕ → List Work → List Work
+left_first a b (Leave x y n ∷ work) = Leave x y (n + 1) ∷ work
+left_first a b work = Leave a b 0 ∷ work
+
+-- One region more can be left first.
+abbrev pub CanLeaveMore : List Work → Type 0
+CanLeaveMore (Leave x y n ∷ work) = n + 1 < 18446744073709551616
+CanLeaveMore work = Unit {0}
 
 -- Where there is nothing to an entry the list is the old one, and else the entry was put on it.
 abbrev pub IsMore : Work → Type 0 → List Work → List Work → Type 0

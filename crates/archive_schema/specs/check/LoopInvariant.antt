@@ -71,14 +71,14 @@ pub record EntriesFit (m : Checker) (key : KeyExpr) (j n p : ℕ) (later : Bool)
   pub fits : p + n * size ≤ length m.bytes.now
   pub first : IsTrue later → size ≤ p
 
--- What remains lies in the bytes, the ranges to come back to lie behind one another, and shared types are known.
+-- What remains lies in the bytes, the ranges to come back to lie behind one another, with a byte at least for each region, and shared types are known.
 abbrev pub ListFits : Checker → ℕ → List Work → Type 0
 ListFits m stop [] = Unit {0}
 ListFits m stop (PartWork i p ∷ work) = PartFits m i p × ListFits m stop work
 ListFits m stop (Parts a b p ∷ work) = PartsFit m a b p × ListFits m stop work
 ListFits m stop (Elements j n p ∷ work) = ElementsFit m j n p × ListFits m stop work
 ListFits m stop (Entries key j n p later ∷ work) = EntriesFit m key j n p later × ListFits m stop work
-ListFits m stop (Leave x y ∷ work) = (stop ≤ x) × (y ≤ length m.bytes.now) × ListFits m y work
+ListFits m stop (Leave x y n ∷ work) = (stop + n < x) × (x ≤ y) × (y ≤ length m.bytes.now) × ListFits m y work
 ListFits m stop (Finish k t ∷ work) = (k < length m.shared_types.now) × ListFits m stop work
 
 -- A turn is safe, in any context.
@@ -93,7 +93,7 @@ pending_in (PartWork i p ∷ work) = pending_in work
 pending_in (Parts a b p ∷ work) = pending_in work
 pending_in (Elements j n p ∷ work) = pending_in work
 pending_in (Entries key j n p later ∷ work) = pending_in work
-pending_in (Leave x y ∷ work) = pending_in work
+pending_in (Leave x y n ∷ work) = pending_in work
 pending_in (Finish k t ∷ work) = t ∷ pending_in work
 
 -- How many regions are still to be left.
@@ -103,7 +103,7 @@ regions_in (PartWork i p ∷ work) = regions_in work
 regions_in (Parts a b p ∷ work) = regions_in work
 regions_in (Elements j n p ∷ work) = regions_in work
 regions_in (Entries key j n p later ∷ work) = regions_in work
-regions_in (Leave x y ∷ work) = 1 + regions_in work
+regions_in (Leave x y n ∷ work) = 1 + n + regions_in work
 regions_in (Finish k t ∷ work) = regions_in work
 
 -- None stands twice.
@@ -250,5 +250,5 @@ cost m stop (PartWork i p ∷ work) = power (level (length m.nodes.now) stop i 1
 cost m stop (Parts a b p ∷ work) = power (level (length m.nodes.now) stop (rank (span m.parts.now a b)) (b - a)) + cost m stop work
 cost m stop (Elements j n p ∷ work) = power (level (length m.nodes.now) stop (j + 1) n) + cost m stop work
 cost m stop (Entries key j n p later ∷ work) = power (level (length m.nodes.now) stop (j + 1) n) + cost m stop work
-cost m stop (Leave x y ∷ work) = 1 + cost m y work
+cost m stop (Leave x y n ∷ work) = 1 + cost m y work
 cost m stop (Finish k t ∷ work) = 1 + cost m stop work

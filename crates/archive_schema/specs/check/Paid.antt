@@ -33,7 +33,7 @@ bytes_of m (PartWork i p) = size_at m.nodes.now i
 bytes_of m (Parts a b p) = bytes_of_parts m a b
 bytes_of m (Elements j n p) = bytes_of_elements m j n
 bytes_of m (Entries key j n p later) = bytes_of_entries m key j n
-bytes_of m (Leave x y) = y - x
+bytes_of m (Leave x y n) = y - x
 bytes_of m (Finish k t) = 0
 
 abbrev pub bytes_in : Checker → List Work → ℕ

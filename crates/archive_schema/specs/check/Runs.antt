@@ -1,5 +1,5 @@
 -- How a check goes over a plan: one rule for each thing that it finds.
-use Rattle.std.specs.Prelude.{◌≡◌, ◌≢◌, ◌⊎◌, ℕ, ◌+◌, ◌-◌, ◌*◌, ◌%◌, ◌<◌, ◌≤◌, max, ℤ, pos, ◌+ℤ◌, List, [], ◌∷◌, length, slice_index, Option, Some, None, IsUtf8, Contains, IsTrue, Bool, true, false}
+use Rattle.std.specs.Prelude.{◌≡◌, ◌≢◌, ◌⊎◌, ℕ, zero, suc, ◌+◌, ◌-◌, ◌*◌, ◌%◌, ◌<◌, ◌≤◌, max, ℤ, pos, ◌+ℤ◌, List, [], ◌∷◌, length, slice_index, Option, Some, None, IsUtf8, Contains, IsTrue, Bool, true, false}
 use Rattle.std.specs.FinMap.{get, insert}
 use Rattle.archive_check.specs.declared.format.error.Error.{Error}
 use Rattle.archive_check.specs.declared.format.error.Error.TheVariants.{InvalidDiscriminant}
@@ -392,6 +392,11 @@ mutual
         → (IsUtf8 (bytes_at m.bytes.now t z) → ⊥)
         → ContentsRun m pending depth Text j n z t start seen (refused no_text)
 
+-- The levels that are left inside a region, and n regions in it.
+abbrev pub deeper : ℕ → Option ℕ → Option ℕ
+deeper zero depth = inside depth
+deeper (suc n) depth = inside (deeper n depth)
+
 -- The whole work list.
 pub data ListRuns (m : Checker) : List ℕ → Option ℕ → ℕ → List Work → ℕ → Seen → Outcome → Type 0 where
   list_end : {pending : List ℕ} {depth : Option ℕ} {stop start : ℕ} {seen : Seen} → ListRuns m pending depth stop [] start seen (done start seen)
@@ -425,10 +430,10 @@ pub data ListRuns (m : Checker) : List ℕ → Option ℕ → ℕ → List Work 
       → EntryTakes m key j offset size
       → EntriesRun m pending depth stop key j (before_at later p size) n p start seen (refused e)
       → ListRuns m pending depth stop (Entries key j n p later ∷ work) start seen (refused e)
-  list_leave : {pending : List ℕ} {depth outer : Option ℕ} {stop x y start : ℕ} {seen : Seen} {o : Outcome} {work : List Work}
-      → depth ≡ inside outer
+  list_leave : {pending : List ℕ} {depth outer : Option ℕ} {stop x y n start : ℕ} {seen : Seen} {o : Outcome} {work : List Work}
+      → depth ≡ deeper n outer
       → ListRuns m pending outer y work x seen o
-      → ListRuns m pending depth stop (Leave x y ∷ work) start seen o
+      → ListRuns m pending depth stop (Leave x y n ∷ work) start seen o
   list_finish : {pending : List ℕ} {depth : Option ℕ} {stop k t start : ℕ} {seen : Seen} {o : Outcome} {work : List Work}
       → ListRuns m pending depth stop work start seen o
       → ListRuns m (t ∷ pending) depth stop (Finish k t ∷ work) start seen o

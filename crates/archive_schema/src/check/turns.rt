@@ -1,7 +1,7 @@
 //! The loop of a check: each entry of the list is opened, and leaves others in its place.
 
-ghost use Rattle.std.specs.Prelude.{◌≡◌, ◌+◌, ◌<◌, ◌≤◌, ◌∷◌, [], length, OnSome, IfNone, IsTrue};
-ghost use Rattle.archive_schema.specs.declared.check.worklist.Work.TheVariants.{Part as PartWork, Parts as PartsWork, Elements as ElementsWork};
+ghost use Rattle.std.specs.Prelude.{◌≡◌, ◌+◌, ◌-◌, ◌<◌, ◌≤◌, ◌∷◌, [], length, OnSome, IfNone, IsTrue};
+ghost use Rattle.archive_schema.specs.declared.check.worklist.Work.TheVariants.{Part as PartWork, Parts as PartsWork, Elements as ElementsWork, Leave as LeaveWork};
 ghost use Rattle.archive_schema.specs.check.Lists.{list_of};
 ghost use Rattle.archive_schema.specs.check.Runs.{pointer_bytes, before_at, Takes};
 ghost use Rattle.archive_schema.specs.check.LoopInvariant.{Ready};
@@ -202,6 +202,28 @@ impl Checker<'_> {
         self.open_elements(node, left - hollow, at + hollow * size, size, work, context)
     }
 
+    /// Leaves a region, and before it the `inner` regions in it that end with it: each gives back a
+    /// level, and the last one the range.
+    #[inline(always)]
+    fn leave_regions<C: ArchiveContext>(
+        &self,
+        start: usize,
+        end: usize,
+        inner: usize,
+        work: &mut Worklist,
+        context: &mut C,
+    ) -> Option<()>
+        requires ready { Ready self.now (C.state context.old)
+            (LeaveWork start end inner ∷ list_of work.old) }
+        ensures turn { Turn C.Context self.now (LeaveWork start end inner) context work result }
+        ensures pays { Pays C.Context self.now (end - start) context work }
+    {
+        for given in 0..inner {
+            leave_region(start, start, work, context)?;
+        }
+        leave_region(start, end, work, context)
+    }
+
     /// Takes one entry of the list.
     fn step<C: ArchiveContext + SharedContext>(
         &self,
@@ -243,7 +265,9 @@ impl Checker<'_> {
                 work.more_entries(key, value, left - 1, at + size, true)?;
                 self.open(value, at + offset, work, context)
             }
-            Work::Leave { start, end } => leave_region(start, end, work, context),
+            Work::Leave { start, end, inner } => {
+                self.leave_regions(start, end, inner, work, context)
+            }
             Work::Finish { shared_type, at } => {
                 let kind = &self.shared_types[shared_type];
                 if let Err(error) = context.finish_shared(&kind.flavor, &kind.pointee, at as i128) {

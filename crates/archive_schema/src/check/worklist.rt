@@ -1,7 +1,7 @@
 //! What is left to check.
 
 ghost use Rattle.std.specs.Prelude.{◌≡◌, ◌≤◌, ◌∷◌, [], None, OnSome, IfSome, IfNone};
-ghost use Rattle.archive_schema.specs.check.Lists.{list_of, PutsMore};
+ghost use Rattle.archive_schema.specs.check.Lists.{list_of, left_first, CanLeaveMore, PutsMore};
 
 use archive_check::context::refusals::refuse;
 use archive_check::format::error::Error;
@@ -36,10 +36,12 @@ pub enum Work {
         at: usize,
         later: bool,
     },
-    /// A region is left: the range is this one again.
+    /// A region is left, and before it the `inner` regions in it that end with it: the range is
+    /// this one again.
     Leave {
         start: usize,
         end: usize,
+        inner: usize,
     },
     /// What lies at a shared position is checked to its end.
     Finish {
@@ -206,14 +208,47 @@ impl Worklist {
         Some(())
     }
 
-    /// A region is to be left, and the range will be this one.
+    // A region is left alone.
     #[inline(always)]
-    pub fn leave(&mut self, start: usize, end: usize) -> Option<()>
-        ensures some { OnSome result (list_of self.new ≡ Work.Leave start end ∷ list_of self.old) }
+    fn push_leave(&mut self, start: usize, end: usize) -> Option<()>
+        ensures some { OnSome result (list_of self.new ≡ Work.Leave start end 0 ∷ list_of self.old) }
         ensures none { IfNone result (self.new.fault ≡ Error.OutOfMemory) }
         ensures kept { IfNone result (list_of self.new ≡ list_of self.old) }
     {
-        self.push(Work::Leave { start, end })
+        self.push(Work::Leave {
+            start,
+            end,
+            inner: 0,
+        })
+    }
+
+    /// A region is to be left, and the range will be this one. If the region around it is left
+    /// next, it is left with that one, whose range counts.
+    #[inline(always)]
+    pub fn leave(&mut self, start: usize, end: usize) -> Option<()>
+        requires { CanLeaveMore (list_of self.old) }
+        ensures some { OnSome result (list_of self.new ≡ left_first start end (list_of self.old)) }
+        ensures none { IfNone result (self.new.fault ≡ Error.OutOfMemory) }
+        ensures kept { IfNone result (list_of self.new ≡ list_of self.old) }
+    {
+        let Some(last) = self.entries.len().checked_sub(1) else {
+            return self.push_leave(start, end);
+        };
+        match self.entries[last] {
+            Work::Leave {
+                start: outer_start,
+                end: outer_end,
+                inner,
+            } => {
+                self.entries[last] = Work::Leave {
+                    start: outer_start,
+                    end: outer_end,
+                    inner: inner + 1,
+                };
+                Some(())
+            }
+            _ => self.push_leave(start, end),
+        }
     }
 
     /// The shared position `at` is to be finished.

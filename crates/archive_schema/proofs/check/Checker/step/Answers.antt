@@ -2,7 +2,7 @@ use Rattle.std.proofs.Common.{rules, ◌+◌, ◌<◌, ◌≤◌, arith, length}
 use Rattle.std.proofs.lemmas.Int.{to_z_pos}
 use mir.Syntax.{w128}
 use Rattle.archive_schema.proofs.check.LegalElements.{node_takes}
-use Rattle.archive_schema.proofs.check.TurnExits.{no_room, opens_free, element_node, leaves, finishes, not_finished}
+use Rattle.archive_schema.proofs.check.TurnExits.{no_room, opens_free, element_node, finishes, not_finished}
 use Rattle.archive_schema.proofs.plan.PlanSizes.{entry_sizes}
 use Rattle.archive_schema.proofs.check.EntryPlaces.{entry_node, keys_fit, next_room, value_fits}
 use Rattle.archive_schema.proofs.check.EntryTurns.{opens_no_entry, key_refused, entry_opened, opens_entry}
@@ -80,9 +80,7 @@ returns-in_ok-more_entries-in-Entries-clause-turn g c =
     rw c.in-Entries.is (opens_entry ready (omega (arith, c.if-left-eq0.false)) takes key c.in_ok-more_entries-in-Entries.ensures.some c.open-in-Entries.ensures.turn)
 
 pub returns-in-Leave-clause-turn : goal.returns-in-Leave-clause-turn
-returns-in-Leave-clause-turn g c =
-    let ready = rw c.in-Leave.is at c.requires.ready in
-    rw c.in-Leave.is (leaves ready c.leave_region.ensures.leaves)
+returns-in-Leave-clause-turn g c = rw c.in-Leave.is c.leave_regions.ensures.turn
 
 pub returns-in-Err-clause-turn : goal.returns-in-Err-clause-turn
 returns-in-Err-clause-turn g c =
