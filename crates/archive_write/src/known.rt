@@ -73,8 +73,8 @@ impl<A: Allocator + Clone> KnownKeys<A> {
         }
     }
 
-    // The same, by the map. It stands apart, since most keys are found in a slot.
-    #[inline(never)]
+    // The same, by the map.
+    #[inline(always)]
     fn search(&self, key: u64) -> Option<Option<usize>>
         ensures { result ≡ get nat_eq self.now.states key }
     {
@@ -90,7 +90,7 @@ impl<A: Allocator + Clone> KnownKeys<A> {
         if len < FEW || len != self.states.capacity() {
             return Ok(());
         }
-        self.finished.make_room(len.saturating_mul(2))
+        self.finished.make_room(len.saturating_add(1))
     }
 
     /// Starts an unknown key, and returns whether there was memory for it.
