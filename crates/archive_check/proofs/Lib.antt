@@ -15,4 +15,3 @@ pub mod Unshared
 pub mod SelfCheck
 pub mod OneList
 pub mod Maps
-pub mod SlotContents

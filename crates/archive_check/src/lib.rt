@@ -5,4 +5,3 @@ pub mod context;
 pub mod format;
 pub mod laws;
 pub mod self_check;
-pub mod slots;

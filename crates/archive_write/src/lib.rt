@@ -1,6 +1,5 @@
 //! Writers of archives, and the keys of what is shared in them.
 #![tactic(auto)]
 
-mod known;
 pub mod ser;
 pub mod sharing;

@@ -8,11 +8,12 @@ ghost use Rattle.archive_check.specs.WriterState.{KeepsKeys, KeepsBytes, only_ke
 ghost use Rattle.archive_write.specs.Sharing.{start_answer, IsSet, KnowsNone};
 ghost use Rattle.archive_write.specs.Writes.{IsStarted};
 
-use crate::known::KnownKeys;
 use crate::ser::Serializer;
 use archive_check::format::error::Error;
 use archive_check::format::traits::Keys;
 use std::alloc::{Allocator, Global};
+use std::collections::HashMap;
+use std::hash::{BuildHasherDefault, FoldHasher};
 
 /// What a key was when it was started. As in rkyv 0.8.18.
 #[derive(Clone, Copy, Debug, PartialEq, Eq)]
@@ -75,6 +76,8 @@ impl<W: Keys, A, S: Sharing> Sharing for Serializer<W, A, S> {
     }
 }
 
+type States<A> = HashMap<u64, Option<usize>, BuildHasherDefault<FoldHasher>, A>;
+
 /// The states of the shared keys of one archive, in memory from an `A`. As in rkyv 0.8.18.
 ///
 /// ```
@@ -85,7 +88,7 @@ impl<W: Keys, A, S: Sharing> Sharing for Serializer<W, A, S> {
 pub struct Share<A: Allocator = Global> {
     alloc: A,
     // In a box, made with the first key: what moves a serializer moves a word of it.
-    states: Option<Box<KnownKeys<A>, A>>,
+    states: Option<Box<States<A>, A>>,
 }
 
 impl<A: Allocator + Clone> Share<A> {
@@ -108,7 +111,7 @@ impl<A: Allocator + Clone> Share<A> {
     {
         let states = Box::new(
             alloc.clone()?,
-            KnownKeys::with_capacity(alloc.clone()?, capacity)?,
+            HashMap::with_capacity(alloc.clone()?, capacity)?,
         )?;
         Ok(Share {
             alloc,
@@ -144,7 +147,7 @@ impl<A: Allocator + Clone> Share<A> {
         let Some(states) = &mut self.states else {
             unreachable!();
         };
-        states.start(key)
+        states.insert(key, None).is_ok()
     }
 
     // Makes the map, where there is none.
@@ -155,7 +158,7 @@ impl<A: Allocator + Clone> Share<A> {
         ensures refusal { IfErr result (λ e. (e ≡ Error.OutOfMemory) × (self.old.states ≡ None)) }
     {
         if self.states.is_none() {
-            let states = KnownKeys::new(self.alloc.clone()?)?;
+            let states = HashMap::new(self.alloc.clone()?);
             self.states = Some(Box::new(self.alloc.clone()?, states)?);
         }
         Ok(())
@@ -185,9 +188,9 @@ impl<A: Allocator + Clone> Sharing for Share<A> {
         ensures room { spare_keys self.old.states ≤ spare_keys self.new.states + 1 }
     {
         if let Some(states) = &self.states {
-            match states.get(key) {
+            match states.get(&key) {
                 Some(None) => return Ok(SharingState::Pending),
-                Some(Some(pos)) => return Ok(SharingState::Finished(pos)),
+                Some(Some(pos)) => return Ok(SharingState::Finished(*pos)),
                 None => {}
             }
         }
@@ -210,6 +213,13 @@ impl<A: Allocator + Clone> Sharing for Share<A> {
         let Some(states) = &mut self.states else {
             return Err(Error::NotStarted);
         };
-        states.finish(key, pos)
+        match states.get_mut(&key) {
+            None => Err(Error::NotStarted),
+            Some(Some(_)) => Err(Error::AlreadyFinished),
+            Some(state) => {
+                *state = Some(pos);
+                Ok(())
+            }
+        }
     }
 }

@@ -5,7 +5,6 @@ mod contexts;
 mod leaves;
 mod memory;
 mod ranges;
-mod slots;
 
 use archive_check::format::expr::FlavorInfo;
 
