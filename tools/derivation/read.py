@@ -6,7 +6,7 @@ How much the toolchain takes at once is counted in loads.py.
 import copy
 from typing import Callable, Dict, List, Optional, Sequence, Set
 
-from . import variant_functions
+from . import units, variant_functions
 from .circles import check_circles
 from .formats import POINTERS, snake, substituted
 from .loads import MOST as MOST_LOAD
@@ -22,7 +22,8 @@ from .recursive.refusals import MOST_BY_NAME
 MOST_FIELDS = 32
 MOST_OF_VARIANT = 16
 # Of an enum's variants that have fields: as many are proved. Where they have no functions of their own the search in `resolve` gives up at 28.
-MOST_WITH_FIELDS = 28
+MOST_WITH_FIELDS = 40
+MOST_BESIDE_UNITS = 28
 MOST_IN_ONE_BODY = 20
 # Of a type that is archived as a tuple with names.
 MOST_FEW = 8
@@ -516,10 +517,13 @@ def check_long(module: Module, fields: List[Field]):
 def check_with_fields(module: Module, it: Declaration):
     """Refuses the first variant with fields that is one too many."""
     with_fields = [v for v in it.variants if v.fields]
-    most = MOST_WITH_FIELDS if variant_functions.are_proved(it) else MOST_IN_ONE_BODY
+    most, kind = MOST_WITH_FIELDS, ""
+    if not variant_functions.are_proved(it):
+        most, kind = MOST_IN_ONE_BODY, " where it has type parameters, a variant of more than 8 fields or shared values"
+    elif units.go_together(it):
+        most, kind = MOST_BESIDE_UNITS, f" where {units.FROM} or more have none"
     if it.part_by_part or len(with_fields) <= most:
         return
-    kind = "" if most == MOST_WITH_FIELDS else " where it has type parameters, a variant of more than 8 fields or shared values"
     said = f"`{it.name}` has {len(with_fields)} variants with fields, and {most} are the most{kind}; put some into an enum of another file"
     raise Refused(module.path, with_fields[most].line, said)
 

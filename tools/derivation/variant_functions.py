@@ -8,6 +8,7 @@ from .formats import SHARING
 from .layout import Generic, call, signature, statement
 from .long import is_long
 from .made import WRITTEN
+from .variant_groups import Groups
 
 # Up to so many variants with fields have their calls in one body.
 MOST_AT_ONCE = 8
@@ -52,6 +53,7 @@ class Functions:
         self.its = f"⟦<{choice.name} as Archive>⟧"
         self.formats.ghost("SourceOutcomes", "Serializes")
         self.formats.ghost("Seen", "part_tag")
+        self.groups = Groups(self)
 
     # ---- the calls of them ----
 
@@ -154,7 +156,7 @@ impl {choice.archived} {{
     def proofs(self, module, dotted):
         """Those that are written beside the module, by their paths in the crate."""
         choice, units = self.choice, self.choice.units
-        out = {f"proofs/{module}/{choice.name}Archive/resolve/Answers.antt": self.resolve_answers(dotted)}
+        out = self.groups.proofs(module, dotted) or {f"proofs/{module}/{choice.name}Archive/resolve/Answers.antt": self.resolve_answers(dotted)}
         if units.are:
             brought, of_units = units.serialize_answers(dotted)
             goals = f"use Rattle.{dotted}.{choice.name}Serialize.serialize.Goals as goal"

@@ -229,7 +229,7 @@ def archive(choice):
             out = f"(part_planned {f.definitions(type)} {f.shape(type)} ({q}.keys {a}) ({q}.meaning {a}) {f.planned(type, a)} {out})"
         return f"plain_variant_planned _ _ {case.tag} {case.parts} refl {case.defined} _ _ {out} refl"
 
-    arms = "".join(resolve_arm(choice, case) for case in choice.units.apart()) + choice.units.resolve_arm()
+    arms = resolve_arms(choice, 0, "self")
     laws = (choice.elim("", keyed), choice.elim("", planned))
     told, calls = in_turn(f)
     brought = (f.law_lines() + choice.brought(own=choice.name, Kept=choice.resolver)).replace("\n\n    ghost", "\n    ghost")
@@ -265,6 +265,16 @@ def resolve_call(case):
     if case.is_long:
         return Generic("resolve_case", [f"{case.word}Lent<'_>", f"{case.word}Fields", archived], [str(case.tag), "&lent"] + arguments)
     return Generic(f"resolve_case_{case.count}", case.rust + [archived], [str(case.tag)] + case.names + arguments)
+
+
+def cases_of(choice, number):
+    """The variants with arms in one body: of a group, where they go in groups."""
+    return choice.functions.groups.groups[number] if choice.functions else choice.units.apart()
+
+
+def resolve_arms(choice, number, value):
+    arms = "".join(resolve_arm(choice, case) for case in cases_of(choice, number)) + choice.units.resolve_arm()
+    return arms + (choice.functions.groups.resolve_behind(number, value) if choice.functions else "")
 
 
 def resolve_arm(choice, case):
@@ -317,20 +327,24 @@ def serialize_call(case):
     return Generic(f"serialize_case_{case.count}", case.rust + [archived, "S"], [str(case.tag)] + case.names + ["serializer"])
 
 
-def serialize(choice):
-    bound = choice.formats.writer_bound(choice.all_types)
+def serialize_arms(choice, number, value):
     arms = []
-    for case in choice.units.apart():
+    for case in cases_of(choice, number):
         if choice.functions:
             arms.append(choice.functions.arm(case, flat(case.pattern()), "serialize", case.names + ["serializer"]))
         else:
             made = f"{choice.resolver}::{case.name}" + ("(kept)" if case.count else "")
             arms.append(match_arm(case.pattern(), serialize_call(case), "kept" if case.count else "()", made, lending(case, 16)))
     arms += choice.units.serialize_arm(match_arm)
+    return "".join(arms) + (choice.functions.groups.serialize_behind(number, value) if choice.functions else "")
+
+
+def serialize(choice):
+    bound = choice.formats.writer_bound(choice.all_types)
     return f"""{implementation([f"S: {bound}"], "Serialize", ["S"], choice.name)}
     #[inline(always)]
     fn serialize(&self, serializer: &mut S) -> Result<Self::Resolver, Error> {{
-{choice.units.matched("self", "".join(arms))}    }}
+{choice.units.matched("self", serialize_arms(choice, 0, "self"))}    }}
 }}
 """
 
@@ -350,20 +364,23 @@ def read_values(case):
     return flat(pattern(case.names, case.by_fours)), case.built()
 
 
-def read(choice):
-    f = choice.formats
-    f.use("archive_core::fields", "known_tag", "read_case")
+def read_arms(choice, number):
     arms = []
-    for case in choice.units.apart():
+    for case in cases_of(choice, number):
         tag = "_" if case is choice.cases[-1] and not choice.units.are else str(case.tag)
         if choice.functions:
             arms.append(choice.functions.arm(case, tag, "read", ["alloc", "part", "deserializer"]))
         else:
             arms.append(match_arm(tag, read_call(case), *read_values(case)))
     arms += choice.units.read_arm()
+    return "".join(arms) + (choice.functions.groups.read_behind(number) if choice.functions else "")
+
+
+def read(choice):
+    choice.formats.use("archive_core::fields", "known_tag", "read_case")
     made = "".join(f"{made_of(case).text(case.names, case.built())}\n" for case in choice.cases if case.is_made_apart) + choice.units.made()
     made = "".join(f"{case.its_pieces().text()}\n" for case in choice.cases if case.pieces) + made
-    return made + deserialize(choice, choice.units.matched("known_tag::<Self>(part)", "".join(arms)))
+    return made + deserialize(choice, choice.units.matched("known_tag::<Self>(part)", read_arms(choice, 0)))
 
 
 def functions(choice):
@@ -377,7 +394,8 @@ def functions(choice):
             texts.append(of.resolve(case, f"{taken_apart(choice.formats, case.types, 8)}{lending(case, 8)}{statement(8, '', resolve_call(case), '')}"))
         texts.append(of.serialize(case, lending(case, 8), serialize_call(case)))
         texts.append(of.read(case, read_call(case), ok_arm(*read_values(case), 12)))
-    return of.text(texts)
+    arms = [lambda *of_group, its=its: its(choice, *of_group) for its in (resolve_arms, serialize_arms, read_arms)]
+    return of.text(texts + of.groups.texts(*arms))
 
 
 def made_of(case):

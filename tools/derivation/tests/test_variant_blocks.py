@@ -3,9 +3,9 @@
 import re
 from unittest import mock
 
-from derivation import variant_blocks
+from derivation import units, variant_blocks
 from derivation.loads import MOST_OF_VARIANTS, Loads
-from derivation.read import MOST_WITH_FIELDS
+from derivation.read import MOST_BESIDE_UNITS, MOST_WITH_FIELDS
 
 from .repository import RepositoryTest
 
@@ -22,6 +22,14 @@ class VariantBlocks(RepositoryTest):
             path = self.put(f"pub enum A {{ X, {', '.join(f'V{i}(u8)' for i in range(count))} }}")
             self.assertEqual(self.run_command(path)[0], status)
         said = f"types.rt:1: `A` has {MOST_WITH_FIELDS + 1} variants with fields, and {MOST_WITH_FIELDS} are the most; put some into an enum of another file"
+        self.assertIn(said, self.run_command(path)[1])
+
+    def test_fewer_beside_many_without_fields(self):
+        without = [f"U{i}" for i in range(units.FROM)]
+        for count, status in ((MOST_BESIDE_UNITS, 0), (MOST_BESIDE_UNITS + 1, 2)):
+            path = self.put(f"pub enum A {{ {', '.join(without + [f'V{i}(u8)' for i in range(count)])} }}")
+            self.assertEqual(self.run_command(path)[0], status)
+        said = f"and {MOST_BESIDE_UNITS} are the most where {units.FROM} or more have none; put some into an enum of another file"
         self.assertIn(said, self.run_command(path)[1])
 
     def test_each_variant_is_in_one_block(self):

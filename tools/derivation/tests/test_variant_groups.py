@@ -1,0 +1,55 @@
+"""Enums of more variants than one body calls the functions of: their calls go in groups."""
+
+import re
+from unittest import mock
+
+from derivation.variant_groups import MOST_IN_BODY, MOST_IN_GROUP
+
+from .repository import RepositoryTest
+
+
+class VariantGroups(RepositoryTest):
+    def written(self, count, more=()):
+        self.file = self.put(f"pub enum A {{ {', '.join([f'V{i}(u8)' for i in range(count)] + list(more))} }}")
+        with mock.patch("derivation.read.MOST_WITH_FIELDS", 256):
+            self.assertEqual(self.run_command(self.file), (0, ""))
+        return self.text(self.file)
+
+    def bodies(self, text, which):
+        """The variants that each body calls the functions of, by their tags, and the group that it calls last."""
+        bodies = re.split(r"^    (?:pub )?fn ", text, flags=re.M)
+        called = [[int(it) for it in re.findall(rf"ArchivedA::{which}_variant_(\d+)\(", body)] for body in bodies]
+        behind = [[int(it) for it in re.findall(rf"ArchivedA::{which}_from_(\d+)\(", body)] for body in bodies]
+        return sorted((tags, last) for tags, last in zip(called, behind) if tags)
+
+    def test_few_have_one_body(self):
+        text = self.written(MOST_IN_BODY)
+        for which in ("resolve", "serialize", "read"):
+            self.assertEqual(self.bodies(text, which), [(list(range(MOST_IN_BODY)), [])])
+
+    def test_each_group_calls_the_next(self):
+        count = 2 * MOST_IN_GROUP + 3
+        text = self.written(count)
+        ends = [MOST_IN_GROUP, 2 * MOST_IN_GROUP, count]
+        wanted = [(list(range(end - MOST_IN_GROUP if end < count else ends[-2], end)), [end] if end < count else []) for end in ends]
+        for which in ("resolve", "serialize", "read"):
+            with self.subTest(which):
+                self.assertEqual(self.bodies(text, which), wanted)
+
+    def test_a_group_requires_that_none_is_before_it(self):
+        text = self.written(MOST_IN_BODY + 1)
+        head = text[text.index(f"fn read_from_{MOST_IN_GROUP}"):]
+        self.assertIn(f"requires from {{ {MOST_IN_GROUP} ≤ tag }}", head[: head.index("match tag")])
+        head = text[text.index(f"fn resolve_from_{MOST_IN_GROUP}"):]
+        head = head[: head.index("match value")]
+        self.assertEqual([int(it) for it in re.findall(r"AV(\d+) a0 ↦ ⊥", head)], list(range(MOST_IN_GROUP)))
+
+    def test_proofs_are_written_for_each_group(self):
+        self.written(MOST_IN_BODY + 1)
+        for place in ("AArchive/resolve", "ASerialize/serialize", f"ArchivedA/resolve_from_{MOST_IN_GROUP}", f"ArchivedA/serialize_from_{MOST_IN_GROUP}"):
+            self.assertTrue(self.text(self.file.replace("src/types.rt", f"proofs/types/{place}/Answers.antt")))
+
+    def test_a_variant_without_fields_has_its_place(self):
+        text = self.written(MOST_IN_BODY, ["U", "W(u8)"])
+        group = text[text.index(f"fn resolve_from_{MOST_IN_GROUP}"):]
+        self.assertIn("A::U => {", group[: group.index("fn serialize_from_")])
