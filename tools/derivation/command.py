@@ -25,8 +25,8 @@ and what is above it stays as it is, byte for byte. docs/OWN_TYPES.md shows what
 Fields: whole numbers, `bool`, `char`, `()`, `String`, `Option`, `Result`, `Box`, `Vec`, `PhantomData`, tuples of up to {read.MOST_PARTS}, arrays, `BTreeMap` with
 keys that are whole numbers, `char` or `String`; of the library `BoxSlice`, `BoxStr`, `OwnedArray`, `NonZero` (and `ArchivedNonZeroU8` ..), `Shared`,
 `SharedSlice`, `SharedStr`, `WeakShared`; and other types that this command wrote, of any module or crate of the repository. A struct has
-up to {read.MOST_FIELDS} fields, each variant of an enum of several {read.MOST_OF_VARIANT}, of deep types fewer, a recursive struct {MOST_OF_RECURSIVE}, in a family or a graph {MOST_BY_NAME}, a struct with type parameters or
-that holds a recursive type {read.MOST_FEW}. An enum has up to {read.MOST_VARIANTS} variants, {read.MOST_WITH_FIELDS} with fields, {read.MOST_BESIDE_UNITS} beside 8 or more without, a recursive one or one that
+up to {read.MOST_FIELDS} fields, each variant of an enum of several {read.MOST_OF_VARIANT}, of deep types fewer, a recursive struct {MOST_OF_RECURSIVE}, in a family or a graph {MOST_BY_NAME}, a struct that
+holds a recursive type {read.MOST_FEW}. An enum has up to {read.MOST_VARIANTS} variants, {read.MOST_WITH_FIELDS} with fields, {read.MOST_BESIDE_UNITS} beside others without, a recursive one or one that
 holds a recursive type up to 59:
 the command counts what the toolchain takes at once, and tells which field or variant is too much.
 
@@ -38,7 +38,8 @@ that each view has (`pos`, `part`, `field`, `eq`, `hash`, ..) is shown by `pos_f
 A line `// text: SCHEMA` has a constant of this name written, the text of these types and of those that they name, by which the crate `archive_inspect` names
 their fields and variants.
 
-An enum with type parameters is archived by an alias for each use, in the same file: `pub type Sum = Outcome<u32, String>;` gives `ArchivedSum`.
+An enum with type parameters, a struct with them of more than {read.MOST_FEW} fields, and one with an alias in its file is archived by an alias for each use:
+`pub type Sum = Outcome<u32, String>;` gives `ArchivedSum`.
 
 The archived type of `Point` is `ArchivedPoint`. A line `// name: Spot` above a declaration gives it the name `Spot` in place of that.
 

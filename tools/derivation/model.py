@@ -87,7 +87,7 @@ class Declaration:
     docs: List[str] = field(default_factory=list)
     visibility: str = ""
     archived: str = ""  # the name of the archived type: `ArchivedPoint`, or another on demand
-    instance_of: str = ""  # the name of an enum with type parameters: this is what an alias of it with arguments stands for, and has that alias's name
+    instance_of: str = ""  # the name of a type with type parameters: this is what an alias of it with arguments stands for, and has that alias's name
     named: bool = False  # `// name: ArchivedTest` stands above it
     recursive: bool = False  # holds itself behind a pointer
     family: List["Declaration"] = field(default_factory=list, compare=False, repr=False)  # of a recursive one: those that it holds and that hold it, itself among them
@@ -110,7 +110,7 @@ class Declaration:
 
     @property
     def declared_name(self) -> str:
-        """The name under which its variants are declared."""
+        """The name under which it is declared, and its variants."""
         return self.instance_of or self.name
 
     def home(self, *folder: str) -> str:

@@ -25,7 +25,8 @@ MOST_OF_VARIANT = 16
 MOST_WITH_FIELDS = 40
 MOST_BESIDE_UNITS = 28
 MOST_IN_ONE_BODY = 20
-# Of a type that is archived as a tuple with names.
+# Of a struct that is archived as a tuple with names: it holds a recursive type, or has type parameters. Of more fields one with type parameters goes by aliases:
+# of a view of such a tuple, with an `i64` and a `u32` in it, "the borrow checker does not cover this function yet".
 MOST_FEW = 8
 MOST_PARTS = 13
 MOST_VARIANTS = 256
@@ -120,22 +121,29 @@ class Reader:
         check_accessors(it)
         return it
 
-    # ---- enums with type parameters ----
+    # ---- types with type parameters that go by aliases ----
 
     def declarations(self, declared: Declared, source: Source) -> List[Declaration]:
-        """What is archived of a declaration: of an enum with type parameters what its aliases stand for."""
-        if not is_generic_enum(declared.declaration):
+        """What is archived of a declaration: of some with type parameters what their aliases stand for."""
+        if not self.goes_by_aliases(declared, source):
             return [self.declaration(declared, source)]
         it, aliases = declared.declaration, self.aliases_of(declared, source)
         if not aliases:
             like = f"pub type {it.name}Of.. = {it.name}<{', '.join('..' for _ in it.parameters)}>;"
-            raise Refused(it.path, it.line, f"`{it.name}` has type parameters: name the types that it is used with, each by an alias in this file, as `{like}`")
+            many = f" and more than {MOST_FEW} fields" if it.kind == "struct" else ""
+            raise Refused(it.path, it.line, f"`{it.name}` has type parameters{many}: name the types that it is used with, each by an alias in this file, as `{like}`")
         if it.named:
             raise Refused(it.path, it.line, f"`{it.name}` has type parameters, so its archived types have the names of its aliases; remove the line `// name:`")
         return [self.instance(declared, source, alias) for alias in aliases]
 
+    def goes_by_aliases(self, declared: Declared, source: Source) -> bool:
+        """Whether what is archived of it is what its aliases stand for: of an enum with type parameters, and of a struct with them that has many fields or such
+        an alias in its file."""
+        it = declared.declaration
+        return bool(it.parameters) and (it.kind == "enum" or len(it.fields) > MOST_FEW or bool(self.aliases_of(declared, source)))
+
     def aliases_of(self, declared: Declared, source: Source) -> List[Alias]:
-        """The aliases in its file that hand arguments to an enum with type parameters."""
+        """The aliases in its file that hand arguments to a type with type parameters."""
         stands_for = lambda alias: alias.type.path and (found := self.world.find(alias.type.path, source)) and found.declared is declared
         return [it for it in source.file.aliases.values() if not it.parameters and stands_for(it)]
 
@@ -145,7 +153,7 @@ class Reader:
         return [self.type(it, scope) for it in alias.type.args]
 
     def instance(self, declared: Declared, source: Source, alias: Alias) -> Declaration:
-        """What an alias of an enum stands for: a declaration of its name, with the alias's arguments in place of parameters."""
+        """What an alias stands for: a declaration of its name, with the alias's arguments in place of parameters."""
         if id(alias) in self.instances:
             return self.instances[id(alias)]
         generic = declared.declaration
@@ -160,7 +168,7 @@ class Reader:
         return self.looked_up(it, Scope(source, {p.name: x for p, x in zip(generic.parameters, args)}, it))
 
     def instance_type(self, it: Type, args: List[Type], found: Found, scope: Scope) -> Type:
-        """An enum with its arguments, by the alias that is written for these."""
+        """A type with its arguments, by the alias that is written for these."""
         declared, source = found.declared, found.source
         for alias in self.aliases_of(declared, source):
             if all(map(is_same, self.arguments_of(alias, declared, source), args)):
@@ -168,7 +176,7 @@ class Reader:
                 return Type(own.name, [], it.line, it.path, own=own, text=shown(Type(it.name, args, path=it.path)).text)
         text = shown(Type(it.name, args, path=(it.name,))).text
         if any(map(has_parameter, args)):
-            raise self.no_format(it, scope, f"`{text}` names a parameter, and an enum with type parameters takes types alone; write a type")
+            raise self.no_format(it, scope, f"`{text}` names a parameter, and what is archived by its aliases takes types alone; write a type")
         raise self.no_format(it, scope, f"no alias stands for `{text}`; write one into {source.path}, as `pub type {it.name}Of.. = {text};`")
 
     def check_is_written(self, it: Declaration, source: Source):
@@ -284,7 +292,7 @@ class Reader:
         self.check_is_no_parameter(it, scope)
         self.want_arguments(it, scope, len(declared.declaration.parameters))
         args = [self.type(x, scope) for x in it.args]
-        if is_generic_enum(declared.declaration):
+        if self.goes_by_aliases(declared, found.source):
             return self.instance_type(it, args, found, scope)
         own = self.declaration(declared, found.source)
         return shown(Type(own.name, args, it.line, it.path, own=own))
@@ -316,10 +324,6 @@ class Reader:
         if not 0 <= number <= MOST_ITEMS:
             raise self.no_format(it, scope, f"an array of {number} items is too long; write at most {MOST_ITEMS}")
         return str(number)
-
-
-def is_generic_enum(it: Declaration) -> bool:
-    return it.kind == "enum" and bool(it.parameters)
 
 
 def has_parameter(it: Type) -> bool:
@@ -460,6 +464,7 @@ def module(reader: Reader, source: Source) -> Module:
     check_loads(out)
     check_arrays(out)
     check_marks(out)
+    check_wide(out)
     check_own_names(out)
     return out
 
@@ -475,8 +480,7 @@ def check_loads(module: Module):
     loads = Loads()
     for it in module.declarations:
         if it.as_tuple and len(it.fields) > MOST_FEW:
-            kind = "with type parameters" if it.parameters else "that holds a recursive type"
-            said = f"`{it.name}` has {len(it.fields)} fields, and {MOST_FEW} are the most of a struct {kind}; put some into a struct of their own"
+            said = f"`{it.name}` has {len(it.fields)} fields, and {MOST_FEW} are the most of a struct that holds a recursive type; put those without it into a struct of their own"
             raise Refused(module.path, it.fields[MOST_FEW].line, said)
         if it.part_by_part:
             check_variants(module, loads, it)
@@ -520,8 +524,8 @@ def check_with_fields(module: Module, it: Declaration):
     most, kind = MOST_WITH_FIELDS, ""
     if not variant_functions.are_proved(it):
         most, kind = MOST_IN_ONE_BODY, " where it has type parameters, a variant of more than 8 fields or shared values"
-    elif units.go_together(it):
-        most, kind = MOST_BESIDE_UNITS, f" where {units.FROM} or more have none"
+    elif len(with_fields) < len(it.variants):
+        most, kind = MOST_BESIDE_UNITS, " where others have none"
     if it.part_by_part or len(with_fields) <= most:
         return
     said = f"`{it.name}` has {len(with_fields)} variants with fields, and {most} are the most{kind}; put some into an enum of another file"
@@ -538,6 +542,26 @@ def check_variants(module: Module, loads: Loads, it: Declaration):
         if len(types) + len(fields) > DEEPEST or loads.of_variants(types) > MOST_OF_VARIANTS:
             recursive = "the recursive " if it.recursive else ""
             raise Refused(module.path, v.line, f"{recursive}`{it.name}` has more variants up to here than the toolchain follows; put some into an enum of another file")
+
+
+# Numbers of eight bytes, and what may be beside one in a struct with type parameters.
+WIDE = {"u64", "i64"}
+NARROW = {"u8", "i8", "bool", "()"}
+
+
+def check_wide(module: Module):
+    """Refuses a number of eight bytes in a struct with type parameters beside others. Of its view, a tuple of all its fields, as of `(A, (B, (ArchivedU64, ())))`,
+    "the borrow checker does not cover this function yet: .. a generic type that is used at too many types, or at types that keep growing"."""
+    for it in module.declarations:
+        wide = [field for field in it.fields if found_in(field.type, lambda x: x.own is None and x.name in WIDE)]
+        if not it.parameters or not wide or len(it.fields) == 1:
+            continue
+        others = {field.type.name for field in it.fields if field is not wide[0] and not (field.type.own is None and field.type.name in NARROW)}
+        if wide[0].type.name in WIDE and len(wide) == 1 and len(others) < 2 and all(any(name == p.name for p in it.parameters) for name in others):
+            continue
+        like = f"pub type {it.name}Of.. = {it.name}<{', '.join('..' for _ in it.parameters)}>;"
+        said = f"`{wide[0].type.text}` beside these fields of a struct with type parameters isn't proved; name the types that it is used with, each by an alias in this file, as `{like}`"
+        raise Refused(module.path, wide[0].type.line, said)
 
 
 def found_in(it: Type, is_it) -> Optional[Type]:

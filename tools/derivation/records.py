@@ -59,11 +59,12 @@ class Record(Source):
 
     def built(self):
         values = [self.formats.read_value(type, name) for type, name in zip(self.types, self.names)]
+        name = self.declaration.declared_name
         if self.declaration.form == "unit":
-            return self.name
+            return name
         if self.declaration.form == "tuple":
-            return Group(f"{self.name}(", values, ")")
-        return literal(self.name, [f"{field.name}: {value}" for field, value in zip(self.fields, values)])
+            return Group(f"{name}(", values, ")")
+        return literal(name, [f"{field.name}: {value}" for field, value in zip(self.fields, values)])
 
 
 def text(formats, declaration):

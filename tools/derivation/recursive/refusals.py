@@ -20,7 +20,7 @@ MOST_ITEMS = 8
 def check_recursive(it: Declaration, line: int, names: str):
     """Refuses a recursive declaration that has no templates."""
     if it.instance_of:
-        raise Refused(it.path, line, f"`{it.name}` is recursive ({names}) and of an enum with type parameters; write one without")
+        raise Refused(it.path, line, f"`{it.name}` is recursive ({names}) and of a type with type parameters; write one without")
     if it.parameters:
         raise Refused(it.path, line, f"`{it.name}` is recursive ({names}) and has type parameters; name its arguments, one type for each")
     check_family(it, names)

@@ -68,7 +68,7 @@ DECLARATIONS = [
     ("struct A<T> { x: u8,\ny: [T; 2] }", "2: an array in a struct with type parameters isn't proved; write a `Vec` in place of `[T; 2]`"),
     ("struct A<T> { x: T,\ny: (u8, T) }", "2: a tuple in a struct with type parameters is too deep for the toolchain; write a struct without parameters"),
     ("struct W<T>(T);\nstruct A { x: Vec<W<Option<W<u8>>>> }", "2: `W<u8>` in a tuple or a struct with type parameters is too deep for the toolchain; write a struct without"),
-    (f"struct A<T> {{ t: T, {LIST.join(f'f{i}: u8' for i in range(FEW))} }}", f"{FEW}: `A` has {FEW + 1} fields, and {FEW} are the most of a struct with type parameters; put some into a struct of their own"),
+    (f"struct A<T> {{ t: T, {LIST.join(f'f{i}: u8' for i in range(FEW))} }}", f"1: `A` has type parameters and more than {FEW} fields: name the types that it is used with, each by an alias in this file, as `pub type AOf.. = A<..>;`"),
     (f"enum A {{ X({LIST.join('u8' for _ in range(FEW + 1))}) }}", f"1: `A` has one variant, of more than {FEW} fields; write a struct"),
     (
         f"enum A {{ X, Y({LIST.join('u8' for _ in range(MOST_OF_VARIANT + 1))}) }}",
@@ -229,7 +229,7 @@ class Circles(RepositoryTest):
             (f"struct A {{ a: Vec<A>, b: Option<u8>,\n{LIST.join(f'a{i}: u8' for i in range(8))} }}", "9: a variant or a struct of the recursive `A` has up to 9 fields; put some of them into a struct of another file"),
             (f"enum A {{ Y, X(Vec<A>,\n{LIST.join('u8' for _ in range(9))}) }}", "10: a variant or a struct of the recursive `A` has up to 9 fields; put some of them into a struct of another file"),
             (f"struct A {{ a: Vec<A>,\n{LIST.join(f'a{i}: Option<Box<Vec<Option<u32>>>>' for i in range(8))} }}", "too deep for the toolchain beside the fields before it; put some of them into a struct"),
-            (f"struct A {{ a: Vec<A> }}\nstruct B {{ a: A,\n{LIST.join(f'a{i}: u8' for i in range(8))} }}", "10: `B` has 9 fields, and 8 are the most of a struct that holds a recursive type; put some into a struct of their own"),
+            (f"struct A {{ a: Vec<A> }}\nstruct B {{ a: A,\n{LIST.join(f'a{i}: u8' for i in range(8))} }}", "10: `B` has 9 fields, and 8 are the most of a struct that holds a recursive type; put those without it into a struct of their own"),
             ("use archive_core::rc::Shared;\nstruct A { a: Vec<Shared<A>> }\nenum B { C(A) }", "3: `A` leads to itself behind a shared pointer, and an enum around it isn't written yet; put it into a struct"),
             ("use archive_core::rc::SharedStr;\nstruct A { a: Vec<A> }\nstruct B { x: SharedStr }\nenum C { D(A, B) }", "4: `B` has fields that tools/derive doesn't write beside `C`, which holds a recursive type; move it to another file"),
             ("use archive_core::rc::SharedStr;\nstruct A { a: Vec<A> }\nstruct B { a: A, b: SharedStr }\nenum C { D(B) }", "4: `B` isn't written yet in an enum that holds a recursive type; put it into a struct of another file"),
