@@ -6,7 +6,7 @@ How much the toolchain takes at once is counted in loads.py.
 import copy
 from typing import Callable, Dict, List, Optional, Sequence, Set
 
-from . import units, variant_functions
+from . import variant_functions
 from .circles import check_circles
 from .formats import POINTERS, snake, substituted
 from .loads import MOST as MOST_LOAD

@@ -3,7 +3,7 @@
 import re
 from unittest import mock
 
-from derivation import units, variant_blocks
+from derivation import variant_blocks
 from derivation.loads import MOST_OF_VARIANTS, Loads
 from derivation.read import MOST_BESIDE_UNITS, MOST_WITH_FIELDS
 
@@ -19,17 +19,16 @@ class VariantBlocks(RepositoryTest):
 
     def test_as_many_variants_have_fields_as_are_proved(self):
         for count, status in ((MOST_WITH_FIELDS, 0), (MOST_WITH_FIELDS + 1, 2)):
-            path = self.put(f"pub enum A {{ X, {', '.join(f'V{i}(u8)' for i in range(count))} }}")
+            path = self.put(f"pub enum A {{ {', '.join(f'V{i}(u8)' for i in range(count))} }}")
             self.assertEqual(self.run_command(path)[0], status)
         said = f"types.rt:1: `A` has {MOST_WITH_FIELDS + 1} variants with fields, and {MOST_WITH_FIELDS} are the most; put some into an enum of another file"
         self.assertIn(said, self.run_command(path)[1])
 
-    def test_fewer_beside_many_without_fields(self):
-        without = [f"U{i}" for i in range(units.FROM)]
+    def test_fewer_beside_others_without_fields(self):
         for count, status in ((MOST_BESIDE_UNITS, 0), (MOST_BESIDE_UNITS + 1, 2)):
-            path = self.put(f"pub enum A {{ {', '.join(without + [f'V{i}(u8)' for i in range(count)])} }}")
+            path = self.put(f"pub enum A {{ {', '.join(['X'] + [f'V{i}(u8)' for i in range(count)])} }}")
             self.assertEqual(self.run_command(path)[0], status)
-        said = f"and {MOST_BESIDE_UNITS} are the most where {units.FROM} or more have none; put some into an enum of another file"
+        said = f"and {MOST_BESIDE_UNITS} are the most where others have none; put some into an enum of another file"
         self.assertIn(said, self.run_command(path)[1])
 
     def test_each_variant_is_in_one_block(self):

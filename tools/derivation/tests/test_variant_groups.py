@@ -11,7 +11,7 @@ from .repository import RepositoryTest
 class VariantGroups(RepositoryTest):
     def written(self, count, more=()):
         self.file = self.put(f"pub enum A {{ {', '.join([f'V{i}(u8)' for i in range(count)] + list(more))} }}")
-        with mock.patch("derivation.read.MOST_WITH_FIELDS", 256):
+        with mock.patch("derivation.read.MOST_WITH_FIELDS", 256), mock.patch("derivation.read.MOST_BESIDE_UNITS", 256):
             self.assertEqual(self.run_command(self.file), (0, ""))
         return self.text(self.file)
 
