@@ -4,6 +4,7 @@ from . import chains, code, proofs, specs
 from ..formats import Formats, layout_of, snake
 from ..model import Field, Type
 from .refusals import MOST_BY_NAME
+from .slices import is_shared_slice
 from .terms import Terms, element, has_elements, is_map
 
 WRITTEN = "Written by tools/derive: change the declaration, and run it again."
@@ -158,8 +159,9 @@ class Recursive:
         return self.terms.word(type)
 
     def depth(self, type):
-        """How many owners a type has around one of the family."""
-        return 0 if self.terms.is_member(type) else 1 + max(self.depth(arg) for arg in type.args if self.terms.leads_back(arg))
+        """How many owners a type has around one of the family: of a shared slice the elements are read by a function of their own."""
+        around = 2 if is_shared_slice(type) else 1
+        return 0 if self.terms.is_member(type) else around + max(self.depth(arg) for arg in type.args if self.terms.leads_back(arg))
 
     def antt(self, type, held=None):
         """A type as antt has it; `held` has what stands in place of each type of the family, by its name."""
@@ -177,7 +179,7 @@ class Recursive:
             return f"(List {self.antt(type.args[0], held)})"
         if is_map(type):
             return f"(BTreeMap {' '.join(self.antt(arg, held) for arg in type.args)})"
-        return f"({type.name} {self.antt(type.args[0], held)})" if type.name in ("Shared", "WeakShared") else f"({type.name} {self.antt(type.args[0], held)} Global)"
+        return f"({type.name} {self.antt(type.args[0], held)})" if type.name in ("Shared", "SharedSlice", "WeakShared") else f"({type.name} {self.antt(type.args[0], held)} Global)"
 
     def plain_types(self, body):
         """The lines that bring in the types of plain parts that `tools/derive` wrote."""

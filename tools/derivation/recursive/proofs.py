@@ -4,7 +4,7 @@ import re
 
 from . import arrays
 from . import chain_proofs as chains
-from . import code, expressions, hollow, lent, map_proofs, weak
+from . import code, expressions, hollow, lent, map_proofs, slices, weak
 from ..common import numbered
 from ..formats import snake
 from .holders import laid
@@ -215,7 +215,7 @@ def same_values(it, case, values, oks, counts):
     """That each resolver is its own part's; of an array, that there are as many as elements."""
     same, counts = "tt", dict(zip(wholes_of(case), counts))
     for i, ok in reversed(list(enumerate(oks))):
-        its = f"c.{ok}.ensures.same_value"
+        its = as_elements(it, case, i, f"c.{ok}.ensures.same_value")
         if i in counts:
             belongs = functions_of(it, "belongs", case.types[i].args[0])
             its = f"as_many_kept {belongs} {case.types[i].length} {values[i]} c.{ok}.{case.names[i]}.items c.{counts[i]}.ensures c.{ok}.ensures.same_values"
@@ -223,9 +223,16 @@ def same_values(it, case, values, oks, counts):
     return same
 
 
+def as_elements(it, case, i, said):
+    """What is said of a part: of a shared slice it is of the elements that the call was passed."""
+    is_slice = case.leads_back[i] and slices.is_shared_slice(case.types[i])
+    return f"(rw c.as_slice-{slices.items_named(it, case, i)}.ensures.value at {said})" if is_slice else said
+
+
 def of_arrays(it, case, answers, values, oks, errs, counts):
     """What is known of the calls that write parts, where arrays are among them: that each is written, and why it isn't."""
-    written, refused = [f"c.{ok}.ensures.serialized" for ok in oks], [f"c.{err}.ensures.refused" for err in errs]
+    written = [as_elements(it, case, i, f"c.{ok}.ensures.serialized") for i, ok in enumerate(oks)]
+    refused = [as_elements(it, case, i, f"c.{err}.ensures.refused") for i, err in enumerate(errs)]
     for i, count in zip(wholes_of(case), counts):
         if arrays.WRITTEN not in answers.items:
             answers.items.append(arrays.WRITTEN)
@@ -276,7 +283,7 @@ def writing(family):
     for it in family.members:
         for type in it.owners:
             if it.is_written(type):
-                {"Box": box_written, "BoxSlice": run_written, "Option": option_written, "Shared": pointer_written, "Vec": run_written, "BTreeMap": map_written, "WeakShared": weak_written, "array": run_written}[type.name](it, type, answers)
+                {"Box": box_written, "BoxSlice": run_written, "Option": option_written, "Shared": pointer_written, "SharedSlice": slice_written, "Vec": run_written, "BTreeMap": map_written, "WeakShared": weak_written, "array": run_written}[type.name](it, type, answers)
         if it.is_record:
             record_written(it, answers)
             continue
@@ -380,6 +387,8 @@ def each_written(it, item, answers):
     elif t.is_shared(item):
         shared_kept(it, item, answers, each, steps, kept, at)
     else:
+        if it.family.shares:
+            answers.answer(each, "returns-in_err-resolvers-clause-goes_on", "goes_nowhere _")
         answers.answer(each, "returns-in_err-map_err-clause-goes_on", f"goes_both _ _ _ {kept}.goes {steps.goes}")
         answers.answer(each, "returns-in_err-map_err-clause-refused", not_pushed("in_err-map_err"))
         step = f"continues_step {at} _ _ _ {steps.resolver} c.loop-value-test.true c.value-item.is (grind (arith, common_steps)) {kept} {steps.serialized} {steps.belongs} {steps.goes}"
@@ -568,6 +577,8 @@ class BehindShared:
     """What is known of the calls that write what is behind a shared pointer: those that fail, and that none does. `some` and `none` are the arms of what is known of its key.
     Where there is no pointer, it is the key and the value that a function is passed."""
 
+    finish = "finish_shared"
+
     def __init__(self, it, value, pointer, some, none):
         t, inner, key, y = it.terms, f"serialize_{it.word(value)}", f"{pointer}.key", f"{pointer}.value.value"
         if not pointer:
@@ -597,6 +608,13 @@ def keyed_written(it, member, answers):
     answered(answers, function, BehindShared(it, member, "", "c.in-Some", "c.in-None"), "in-Some")
 
 
+def slice_written(it, type, answers):
+    """The answers on a shared slice, and on what each of its elements owns where no other before it has these elements."""
+    if it.is_first_run(type):
+        each_written(it, type.args[0], answers)
+    answered(answers, f"serialize_{it.word(type)}", slices.BehindSlice(it, type), "in-Some")
+
+
 def answered(answers, function, its, some, as_written="{}", as_refused="{}"):
     """These answers; `some` is the arm in which the key is known."""
     for behind, goes, refused in its.refusals:
@@ -604,8 +622,8 @@ def answered(answers, function, its, some, as_written="{}", as_refused="{}"):
             answers.answer(function, f"returns-in-Err{behind}-clause-goes_on", goes)
         answers.answer(function, f"returns-in-Err{behind}-clause-refused", as_refused.format(refused))
     answers.answer(function, f"returns-{some}-clause-serialized", as_written.format(its.known))
-    answers.answer(function, "returns-in-Ok-finish_shared-clause-serialized", as_written.format(its.serialized))
-    answers.answer(function, "returns-in-Ok-finish_shared-clause-goes_on", its.goes)
+    answers.answer(function, f"returns-in-Ok-{its.finish}-clause-serialized", as_written.format(its.serialized))
+    answers.answer(function, f"returns-in-Ok-{its.finish}-clause-goes_on", its.goes)
 
 
 def pointer_written(it, type, answers):
@@ -703,7 +721,7 @@ def reading(family):
         if not it.is_holder:
             measures(it, answers)
         for type in it.owners:
-            {"Box": box_read, "BoxSlice": run_read, "Option": option_read, "Vec": run_read, "BTreeMap": map_proofs.read, "Shared": shared_read, "WeakShared": weak.read, "array": array_read, "tuple": row_read}[type.name](it, type, answers)
+            {"Box": box_read, "BoxSlice": run_read, "Option": option_read, "Vec": run_read, "BTreeMap": map_proofs.read, "Shared": shared_read, "SharedSlice": slices.read, "WeakShared": weak.read, "array": array_read, "tuple": row_read}[type.name](it, type, answers)
         for case in it.cases:
             here = answers if it.is_record or any(case.leads_back) else Answers(family, f"read_{case.n}")
             parts_read(it, case, here, f"read_{case.n}" if here is answers and not it.is_holder else "")
@@ -728,6 +746,8 @@ def measures(it, answers):
     for type in it.owners:
         size = it.formats.layout(type)[0]
         answers.invariant("", f"decreases-read_{it.word(type)}", measure(size, rank(type)))
+        if slices.is_shared_slice(type):
+            answers.invariant("", f"decreases-read_{slices.items_word(it, type)}", measure(size, rank(type) - 1))
         if skips_none(it, type):
             answers.invariant("", f"decreases-read_each_{it.word(type.args[0])}", measure(size, 0))
     if not it.is_record:
