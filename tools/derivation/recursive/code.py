@@ -17,6 +17,7 @@ from . import chains
 from . import expressions
 from . import maps
 from . import slices
+from . import tuples
 from ..common import chain, doc_lines, in_turn, infix, taken_apart
 from ..common import kept_of as handed_on
 from ..formats import snake
@@ -52,7 +53,7 @@ def text(it):
     bring(it)
     pieces = [types(it), pointee(it), "\n".join(row_format(it, type) for type in it.rows), "" if it.is_holder else stands_for(it), portable(it), view_of(it), resolver(it)]
     pieces += [boxed_slices(it), weak.calls(it), shared_pointers(it), lent.text(it)]
-    pieces += [slices.hollow_slices(it), arrays.calls(it), arrays.hollow_arrays(it, kept, hollow_source), archive(it)]
+    pieces += [slices.hollow_slices(it), tuples.hollow_tuples(it, kept, hollow), arrays.calls(it), arrays.hollow_arrays(it, kept, hollow_source), archive(it)]
     if it.is_chain:
         chains.refuse_derived_drop(it.declaration)
         chains.refuse_long(it)
@@ -358,6 +359,8 @@ def kept(it, type):
         return f"Option<{kept(it, type.args[0])}>"
     if arrays.is_array(type):
         return f"Vec<{kept(it, type.args[0])}>"
+    if it.terms.is_row(type):
+        return flat(pair([kept(it, arg) for arg in type.args]))
     resolvers = {"Box": "BoxResolver", "BoxSlice": "BoxResolver", "BTreeMap": "SortedMapResolver", "Shared": "RcResolver", "SharedSlice": "RcResolver", "Vec": "VecResolver", "WeakShared": "RcWeakResolver"}
     return resolvers[type.name]
 
@@ -395,6 +398,8 @@ def hollow(it, type):
         return shared_at(type)
     if slices.is_shared_slice(type):
         return slices.slice_at(type)
+    if it.terms.is_row(type):
+        return tuples.tuple_at(it, type)
     return f"{type.name}At<{inside(it, item)}>"
 
 
@@ -411,6 +416,7 @@ def hollows(it, case):
         made = f"{type.name}At::of({items_of(type, at)[:-len('.items')]}.len())" if is_run(type) else f"{type.name}At::new()"
         made = f"MapAt::of({at}.len())" if is_map(type) else made
         made = f"{its} {{ len: {at}.value.len() }}" if slices.is_shared_slice(type) else made
+        made = tuples.made(it, type, at) if it.terms.is_row(type) else made
         rust.append(its)
         is_unit = it.terms.is_pointer(type) or arrays.is_array(type)
         if is_unit and not case.is_long:
@@ -832,6 +838,10 @@ def parts_written(it, case, values, indent=4, by_call=None):
         function, error = f"serialize_{it.word(type)}" if back else "serialize_part", "handed_on(error)" if i == by_call else "error"
         if back and type.name == "BoxSlice":
             value = f"&{value.lstrip('&')}.items"
+        if it.terms.is_row(type):
+            row = it.row(type, name)
+            lines += parts_written(it, row, tuples.lent_parts(row, value), indent) + statement(indent, f"let {name} = ", pair(row.names), ";")
+            continue
         if back and arrays.is_array(type):
             function = f"serialize_each_{it.word(type.args[0])}"
             lines += f"{pad}is_whole({value});\n"

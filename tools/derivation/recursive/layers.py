@@ -30,12 +30,14 @@ class Case:
 
 
 class Row(Case):
-    """The parts of a tuple that leads back, as of a record that stands for itself."""
+    """The parts of a tuple that leads back, as of a record that stands for itself; of one that is a field each is named after that."""
 
-    def __init__(self, whole, type):
+    def __init__(self, whole, type, name=""):
         super().__init__(whole, "", whole.word(type), None, "tuple", [Field(str(i), arg, type.line) for i, arg in enumerate(type.args)], [])
         self.is_row, self.tuple, self.whole = True, type, whole.formats.archived(type)
         self.first_back = self.leads_back.index(True)
+        if name:
+            self.names = [f"{name}_{i}" for i in range(self.count)]
 
 
 class Family:
@@ -132,10 +134,11 @@ class Recursive:
         """Whether a function writes what an owner owns: what is in an option is written with it, and a vector in a box by a function of its own."""
         parts = [part for it in self.family.members for case in it.cases for part in case.types if self.terms.leads_back(part)]
         parts += [part.args[0] for part in parts if part.name == "Box"]
-        return any(self.word(part) == self.word(type) for part in parts)
+        parts += [arg for part in parts if self.terms.is_row(part) for arg in part.args if self.terms.leads_back(arg)]
+        return not self.terms.is_row(type) and any(self.word(part) == self.word(type) for part in parts)
 
-    def row(self, type):
-        return Row(self, type)
+    def row(self, type, name=""):
+        return Row(self, type, name)
 
     def row_name(self, type):
         """The type by which functions know an archived tuple: `PairStringJson`."""

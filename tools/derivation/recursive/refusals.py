@@ -105,6 +105,9 @@ def check_owner(it: Declaration, type: Type, line: int):
     if is_named(type, "SharedSlice"):
         check_slice(it, type, line)
         return
+    if is_named(type, "tuple"):
+        check_tuple(it, type, line)
+        return
     written = (
         f"a `Box<{it.name}>`, a `Shared<{it.name}>`, an `Option` of one, a `Vec` or a `BoxSlice` of `{it.name}`, of `Box<{it.name}>`, `Option<Box<{it.name}>>` or `Shared<{it.name}>`,"
         f" a `Vec` of tuples, a `Box` of such a `Vec`, a `SharedSlice` or a `BTreeMap` of `{it.name}` is"
@@ -138,6 +141,16 @@ def check_slice(it: Declaration, type: Type, line: int):
     if len(it.family) > 1 or others or not is_member(it, type.args[0]):
         said = f"a `SharedSlice` that leads back to `{it.name}` is written with elements of `{it.name}`, if no other type is recursive with it and it shares nothing else"
         raise Refused(it.path, line, f"{said}; write a `Shared` of a struct of this file with a `Vec`")
+
+
+def check_tuple(it: Declaration, type: Type, line: int):
+    """A tuple that leads back outside a vector is a field of a struct, and has options of boxes of the type itself, and numbers. Others aren't proved."""
+    shared = any(has_shared(field.type, it.family) for field in it.all_fields())
+    parts = all(arg.name == "Option" and is_pointer(it, arg) if leads_back(it, arg) else arg.own is None and arg.name in LEAVES for arg in type.args)
+    others = sum(leads_back(it, field.type) for field in it.all_fields()) > 1 or len(it.family) > 1
+    if it.kind == "enum" or shared or others or not parts or len(it.fields) > MOST_BY_NAME or len(type.args) != 2:
+        said = f"a tuple that leads back to `{it.name}` outside a `Vec` is written in a struct, of an option of a box and a number, if no other field leads back and no other type is recursive with it"
+        raise Refused(it.path, line, f"{said}; write a struct of this file")
 
 
 def check_map(it: Declaration, type: Type, line: int):

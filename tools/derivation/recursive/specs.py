@@ -7,7 +7,7 @@ from . import slices
 from ..formats import ALIGNS
 from ..model import Type
 from .plain import has_boxed, items_of, product
-from .terms import around, brought, brought_owns, element, is_map, something, stem
+from .terms import Placed, around, brought, brought_owns, element, is_map, places, something, stem
 from .weak import SPOKEN as SPOKEN_OF_WEAK
 from .weak import held_in, option_of, vectors, written_out
 
@@ -485,13 +485,15 @@ def splits(it, case):
     for type, name in zip(case.types, case.names):
         each = ["None", f"(Some {name})"] if is_split(it, type) else [name]
         each = list(map(written_out, each)) if it.terms.is_weak(type) else each
+        if is_split(it, type) and it.terms.is_row(type):
+            each = [Placed(values) for values in splits(it, it.row(type, name))]
         out = [values + [one] for values in out for one in each]
     return out
 
 
 def is_split(it, type):
-    """Whether it computes at nothing and at something alone: an option, or a weak pointer, which holds one."""
-    return it.terms.is_option(type) or it.terms.is_weak(type)
+    """Whether it computes at nothing and at something alone: an option, a weak pointer, which holds one, or a tuple of one."""
+    return it.terms.is_option(type) or it.terms.is_weak(type) or it.terms.is_row(type) and any(is_split(it, arg) for arg in type.args)
 
 
 def wholes(it):
@@ -775,7 +777,8 @@ def held_plan(it, case, values):
     out = "no_part_planned"
     for type, x in reversed(list(zip(case.types, values))):
         t = it.terms
-        out = f"(part_planned {t.definitions(type)} {t.shape(type)} {held_keys(it, type, x)} {held_meaning(it, type, x)} {t.planned(type, x, True)} {out})"
+        its = f"(product_planned _ _ _ _ {held_plan(it, it.row(type), places(type, x))})" if t.is_row(type) else t.planned(type, x, True)
+        out = f"(part_planned {t.definitions(type)} {t.shape(type)} {held_keys(it, type, x)} {held_meaning(it, type, x)} {its} {out})"
     return out
 
 
@@ -783,6 +786,11 @@ def held_keys(it, type, x):
     t = it.terms
     if t.is_member(type):
         return f"({t.n_of(type)}_keys {x}.0)"
+    if t.is_row(type):
+        out = "[]"
+        for arg, y in reversed(list(zip(type.args, places(type, x)))):
+            out = f"({held_keys(it, arg, y)} ++ {out})"
+        return out
     if t.leads_back(type) and type.name == "Box":
         return held_keys(it, type.args[0], f"{x}.value")
     if t.is_option(type):
@@ -806,6 +814,8 @@ def held_meaning(it, type, x):
     t = it.terms
     if t.is_member(type):
         return f"({t.n_of(type)}_meaning {x}.0)"
+    if t.is_row(type):
+        return f"(product {product([held_meaning(it, arg, y) for arg, y in zip(type.args, places(type, x))])})"
     if t.leads_back(type) and type.name == "Box":
         return f"(box {held_meaning(it, type.args[0], f'{x}.value')})"
     if t.is_option(type):

@@ -444,9 +444,18 @@ class Terms:
         return out
 
 
+class Placed(str):
+    """A tuple that is written out, with its parts."""
+
+    def __new__(cls, parts):
+        its = super().__new__(cls, f"({', '.join(parts)})")
+        its.parts = parts
+        return its
+
+
 def places(type, x):
     """The parts of a tuple."""
-    return [f"{x}.{i}" for i in range(len(type.args))]
+    return x.parts if isinstance(x, Placed) else [f"{x}.{i}" for i in range(len(type.args))]
 
 
 def is_run(type):

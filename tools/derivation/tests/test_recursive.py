@@ -243,6 +243,14 @@ class Recursive(RepositoryTest):
         self.assertIn("(null_serialized place_definitions (one place_shape) _)", self.beside("proofs", "types", "+serialize_place", "Answers.antt"))
         self.assertEqual(self.run_command("--check", path), (0, ""))
 
+    def test_parts_of_a_tuple_are_written_with_the_value(self):
+        path = self.put("#[derive(Drop)]\npub struct Couple { id: u32, both: (Option<Box<Couple>>, u8) }\n")
+        self.assertEqual(self.run_command(path), (0, ""))
+        text = self.text(path)
+        for word in ("struct PairOptionBoxCoupleU8At<'a> {", "serialize_option_box_couple(&value.both.0, serializer)", "let a1 = (a1_0, (a1_1, ()));"):
+            self.assertIn(word, text)
+        self.assertIn("couple_means_at a0 ((Some a1_0), a1_1) = ", self.beside("specs", "CoupleMeaning.antt"))
+
     def test_elements_of_shared_slices_are_written_for_their_key(self):
         path = self.put("use archive_core::rc::SharedSlice;\n#[derive(Drop)]\npub enum Twig { Leaf(u8), All(SharedSlice<Twig>), Two(SharedSlice<Twig>, SharedSlice<Twig>) }\n")
         self.assertEqual(self.run_command(path), (0, ""))
