@@ -6,3 +6,5 @@ pub mod RoadMeaning
 pub mod RoadShape
 pub mod RuleMeaning
 pub mod RuleShape
+pub mod BagMeaning
+pub mod BagShape

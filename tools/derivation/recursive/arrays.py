@@ -67,7 +67,7 @@ def hollow_arrays(it, kept, hollow_source):
 """
         text = hollow_source(
             array_at(it, type), it.formats.archived(type), kept(it, type), f"λ _ r. {it.terms.flat(type, '_', 'r')[1:-1]}", it.formats.layout(type)[0], body,
-            f"length {{}}.items ≡ {type.length}",
+            f"length {{r}}.items ≡ {type.length}",
         )
         out.append(f"// An array whose values were written before. It can be resolved, and nothing else: it means nothing.\n#[derive(Drop)]\nstruct {array_at(it, type)};\n\n{text}")
         it.formats.use("archive_core::recursive", at)

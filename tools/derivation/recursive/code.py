@@ -16,6 +16,8 @@ from . import arrays
 from . import chains
 from . import expressions
 from . import maps
+from . import slices
+from . import tuples
 from ..common import chain, doc_lines, in_turn, infix, taken_apart
 from ..common import kept_of as handed_on
 from ..formats import snake
@@ -24,7 +26,7 @@ from .expressions import EXPR
 from .hollow import boxed_slices, hollow_source, shared_at, shared_pointers
 from .plain import items_of
 from .reads import is_made, skips_none, word_of
-from .terms import is_map, is_run, stem
+from .terms import has_elements, is_map, is_run, stem
 from ..layout import Generic, Group, call, flat, implementation, literal, pair, signature, statement
 from ..long import nest
 
@@ -51,7 +53,7 @@ def text(it):
     bring(it)
     pieces = [types(it), pointee(it), "\n".join(row_format(it, type) for type in it.rows), "" if it.is_holder else stands_for(it), portable(it), view_of(it), resolver(it)]
     pieces += [boxed_slices(it), weak.calls(it), shared_pointers(it), lent.text(it)]
-    pieces += [arrays.calls(it), arrays.hollow_arrays(it, kept, hollow_source), archive(it)]
+    pieces += [slices.hollow_slices(it), tuples.hollow_tuples(it, kept, hollow), arrays.calls(it), arrays.hollow_arrays(it, kept, hollow_source), archive(it)]
     if it.is_chain:
         chains.refuse_derived_drop(it.declaration)
         chains.refuse_long(it)
@@ -357,7 +359,9 @@ def kept(it, type):
         return f"Option<{kept(it, type.args[0])}>"
     if arrays.is_array(type):
         return f"Vec<{kept(it, type.args[0])}>"
-    resolvers = {"Box": "BoxResolver", "BoxSlice": "BoxResolver", "BTreeMap": "SortedMapResolver", "Shared": "RcResolver", "Vec": "VecResolver", "WeakShared": "RcWeakResolver"}
+    if it.terms.is_row(type):
+        return flat(pair([kept(it, arg) for arg in type.args]))
+    resolvers = {"Box": "BoxResolver", "BoxSlice": "BoxResolver", "BTreeMap": "SortedMapResolver", "Shared": "RcResolver", "SharedSlice": "RcResolver", "Vec": "VecResolver", "WeakShared": "RcWeakResolver"}
     return resolvers[type.name]
 
 
@@ -392,6 +396,10 @@ def hollow(it, type):
     item = type.args[0].args[0] if type.name == "Option" else type.args[0]
     if it.terms.is_pointer(type):
         return shared_at(type)
+    if slices.is_shared_slice(type):
+        return slices.slice_at(type)
+    if it.terms.is_row(type):
+        return tuples.tuple_at(it, type)
     return f"{type.name}At<{inside(it, item)}>"
 
 
@@ -407,6 +415,8 @@ def hollows(it, case):
         its = hollow(it, type)
         made = f"{type.name}At::of({items_of(type, at)[:-len('.items')]}.len())" if is_run(type) else f"{type.name}At::new()"
         made = f"MapAt::of({at}.len())" if is_map(type) else made
+        made = f"{its} {{ len: {at}.value.len() }}" if slices.is_shared_slice(type) else made
+        made = tuples.made(it, type, at) if it.terms.is_row(type) else made
         rust.append(its)
         is_unit = it.terms.is_pointer(type) or arrays.is_array(type)
         if is_unit and not case.is_long:
@@ -481,7 +491,7 @@ def archive(it):
 
 def resolve_arm(it, case):
     rust, values, lines = hollows(it, case)
-    names = [name if not back or is_run(type) or is_map(type) or it.terms.is_member(type) else f"_{name}" for name, type, back in zip(case.names, case.types, case.leads_back)]
+    names = [name if not back or has_elements(type) and not arrays.is_array(type) or is_map(type) or it.terms.is_member(type) else f"_{name}" for name, type, back in zip(case.names, case.types, case.leads_back)]
     kept_ = handed_on(it.formats, case.types)
     if case.is_long:
         resolved = lent.call(it, case, values, kept_, 16)
@@ -597,6 +607,8 @@ fn serialize_{name}<{it.writer}>(value: &{T}, serializer: &mut S) -> Result<{kep
     if is_map(type):
         return maps.writing(it, type, contract, parts_written)
     each = each_writing(it, item) if it.is_first_run(type) else ""
+    if slices.is_shared_slice(type):
+        return each + slices.writing(it, type)
     return each[:-1] if arrays.is_array(type) else each + run_writing(it, type)
 
 
@@ -826,9 +838,17 @@ def parts_written(it, case, values, indent=4, by_call=None):
         function, error = f"serialize_{it.word(type)}" if back else "serialize_part", "handed_on(error)" if i == by_call else "error"
         if back and type.name == "BoxSlice":
             value = f"&{value.lstrip('&')}.items"
+        if it.terms.is_row(type):
+            row = it.row(type, name)
+            lines += parts_written(it, row, tuples.lent_parts(row, value), indent) + statement(indent, f"let {name} = ", pair(row.names), ";")
+            continue
         if back and arrays.is_array(type):
             function = f"serialize_each_{it.word(type.args[0])}"
             lines += f"{pad}is_whole({value});\n"
+        if back and slices.is_shared_slice(type):
+            items, value = slices.items_named(it, case, i), value.lstrip("&")
+            lines += f"{pad}let {items} = {value}.value.as_slice();\n"
+            value = f"{value}.key, {items}"
         lines += f"{pad}let {name} = match {function}({value}, serializer) {{\n{pad}    Ok({name}) => {name},\n{pad}    Err(error) => return Err({error}),\n{pad}}};\n"
     return lines
 
@@ -866,8 +886,8 @@ def case_writing(it, case):
 
 def is_inline(case):
     """Whether a variant is written where the value is matched: the toolchain doesn't see that a function ends that is passed several parts which lead back, or a
-    boxed slice."""
-    return sum(case.leads_back) > 1 or any(back and type.name == "BoxSlice" for type, back in zip(case.types, case.leads_back))
+    boxed or a shared slice."""
+    return sum(case.leads_back) > 1 or any(back and type.name in ("BoxSlice", "SharedSlice") for type, back in zip(case.types, case.leads_back))
 
 
 def cycle_of(it):
@@ -1060,6 +1080,9 @@ def owner_reading(it, type):
 """
     elif type.name == "WeakShared":
         body = weak.reading(it, type)
+    elif slices.is_shared_slice(type):
+        inner_ = reader(it, slices.items_word(it, type), f"Vec<{it.formats.rust(item)}>", slices.read_contract(it, type), slices.reading_items(it, type), "Reads the elements of a shared slice back.")
+        return inner_ + "\n" + reader(it, it.word(type), T, read_contract(it, type), slices.reading(it, type), "Reads a shared slice back.")
     elif type.name == "Box":
         body = f"""    let view: Ref<'_, ArchivedBox<{inner}>> = Ref::at(part);
     let value = match read_{it.word(item)}(alloc, before_box(view).part(), {levels}deserializer) {{

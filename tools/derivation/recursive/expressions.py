@@ -10,7 +10,7 @@ from .terms import is_map
 # By its path: with a `use` of it, the toolchain finds no clause of the module unless `crates.txt` names `archive_check`, whose type it is.
 EXPR = "archive_core::shape::Expr"
 # The calls for a type around one that leads back, by its name.
-AROUND = {"Box": "boxed", "BoxSlice": "run", "Option": "option", "Shared": "shared", "Vec": "vec", "WeakShared": "weak"}
+AROUND = {"Box": "boxed", "BoxSlice": "run", "Option": "option", "Shared": "shared", "SharedSlice": "shared_run", "Vec": "vec", "WeakShared": "weak"}
 
 
 def brought(it):

@@ -255,7 +255,7 @@ HOLLOW = [
 
 
 def hollow_source(name, archived, resolver, flat, size, body, belongs="⊤"):
-    """The impl of `Archive` of a hollow part without fields; `belongs` says which resolvers are its own, each in place of the braces."""
+    """The impl of `Archive` of a hollow part; `belongs` says which resolvers are its own, `r` in braces, of which parts, `b` in braces."""
     meaning, keys, keyed, planned = (f"    ghost {member} = {{ {its} }};\n\n" for member, its in HOLLOW)
     return f"""impl Archive for {name} {{
     type Archived = {archived};
@@ -264,7 +264,7 @@ def hollow_source(name, archived, resolver, flat, size, body, belongs="⊤"):
 
 {meaning}    ghost flat = {{ {flat} }};
 
-{keys}    ghost belongs = {{ λ _ {'r' if '{}' in belongs else '_'}. {belongs.format('r')} }};
+{keys}    ghost belongs = {{ λ {'b' if '{b}' in belongs else '_'} {'r' if '{r}' in belongs else '_'}. {belongs.format(b='b', r='r')} }};
 
     ghost in_bulk = {{ None }};
 
@@ -275,7 +275,7 @@ def hollow_source(name, archived, resolver, flat, size, body, belongs="⊤"):
         place: Place<'_, {archived}>,
     ) -> Result<(), Error>
         requires zeroed {{ ZeroedPlace {size} place.pos place.bytes.now }}
-        requires same_value {{ {belongs.format('resolver')} }}
+        requires same_value {{ {belongs.format(b='self.now', r='resolver')} }}
         ensures {{ ResolvesAs ⟦<Self::Archived as Portable>⟧ place
             (⟦<Self as Archive>⟧.flat self.now resolver) result }}
     {{

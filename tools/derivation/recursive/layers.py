@@ -4,6 +4,7 @@ from . import chains, code, proofs, specs
 from ..formats import Formats, layout_of, snake
 from ..model import Field, Type
 from .refusals import MOST_BY_NAME
+from .slices import is_shared_slice
 from .terms import Terms, element, has_elements, is_map
 
 WRITTEN = "Written by tools/derive: change the declaration, and run it again."
@@ -29,12 +30,14 @@ class Case:
 
 
 class Row(Case):
-    """The parts of a tuple that leads back, as of a record that stands for itself."""
+    """The parts of a tuple that leads back, as of a record that stands for itself; of one that is a field each is named after that."""
 
-    def __init__(self, whole, type):
+    def __init__(self, whole, type, name=""):
         super().__init__(whole, "", whole.word(type), None, "tuple", [Field(str(i), arg, type.line) for i, arg in enumerate(type.args)], [])
         self.is_row, self.tuple, self.whole = True, type, whole.formats.archived(type)
         self.first_back = self.leads_back.index(True)
+        if name:
+            self.names = [f"{name}_{i}" for i in range(self.count)]
 
 
 class Family:
@@ -131,10 +134,11 @@ class Recursive:
         """Whether a function writes what an owner owns: what is in an option is written with it, and a vector in a box by a function of its own."""
         parts = [part for it in self.family.members for case in it.cases for part in case.types if self.terms.leads_back(part)]
         parts += [part.args[0] for part in parts if part.name == "Box"]
-        return any(self.word(part) == self.word(type) for part in parts)
+        parts += [arg for part in parts if self.terms.is_row(part) for arg in part.args if self.terms.leads_back(arg)]
+        return not self.terms.is_row(type) and any(self.word(part) == self.word(type) for part in parts)
 
-    def row(self, type):
-        return Row(self, type)
+    def row(self, type, name=""):
+        return Row(self, type, name)
 
     def row_name(self, type):
         """The type by which functions know an archived tuple: `PairStringJson`."""
@@ -158,8 +162,9 @@ class Recursive:
         return self.terms.word(type)
 
     def depth(self, type):
-        """How many owners a type has around one of the family."""
-        return 0 if self.terms.is_member(type) else 1 + max(self.depth(arg) for arg in type.args if self.terms.leads_back(arg))
+        """How many owners a type has around one of the family: of a shared slice the elements are read by a function of their own."""
+        around = 2 if is_shared_slice(type) else 1
+        return 0 if self.terms.is_member(type) else around + max(self.depth(arg) for arg in type.args if self.terms.leads_back(arg))
 
     def antt(self, type, held=None):
         """A type as antt has it; `held` has what stands in place of each type of the family, by its name."""
@@ -177,7 +182,7 @@ class Recursive:
             return f"(List {self.antt(type.args[0], held)})"
         if is_map(type):
             return f"(BTreeMap {' '.join(self.antt(arg, held) for arg in type.args)})"
-        return f"({type.name} {self.antt(type.args[0], held)})" if type.name in ("Shared", "WeakShared") else f"({type.name} {self.antt(type.args[0], held)} Global)"
+        return f"({type.name} {self.antt(type.args[0], held)})" if type.name in ("Shared", "SharedSlice", "WeakShared") else f"({type.name} {self.antt(type.args[0], held)} Global)"
 
     def plain_types(self, body):
         """The lines that bring in the types of plain parts that `tools/derive` wrote."""

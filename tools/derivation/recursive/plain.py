@@ -21,11 +21,13 @@ OWN_RESOLVERS = {"usize": "({x} < 2 ^ 32)", "isize": "(FitsSigned w32 {x})"}
 
 
 def items_of(type, x):
-    """The elements of a vector, of a boxed slice, or of an array, which is a list itself; the entries of a map."""
+    """The elements of a vector, of a boxed or a shared slice, or of an array, which is a list itself; the entries of a map."""
     if type.name == "array":
         return x
     if type.name == "BTreeMap":
         return f"{x}.entries"
+    if type.name == "SharedSlice":
+        return f"{x}.value.items.value.items"
     return f"{x}.items" if type.name == "Vec" else f"{x}.items.items"
 
 

@@ -4,13 +4,13 @@ import re
 
 from . import arrays
 from . import chain_proofs as chains
-from . import code, expressions, hollow, lent, map_proofs, weak
+from . import code, expressions, hollow, lent, map_proofs, slices, weak
 from ..common import numbered
 from ..formats import snake
 from .holders import laid
 from .reads import Reads, skips_none
 from .specs import owns
-from .terms import brought, stem
+from .terms import brought, places, stem
 
 # Lemmas and definitions that answers cite, by their modules.
 CITED = {
@@ -190,10 +190,52 @@ def all_goes(goes):
 
 
 def words_of(it, case):
-    """The calls that write the parts of a case: of an array its elements."""
-    words = [it.word(type.args[0] if arrays.is_array(type) else type) for type in case.types]
-    each = ["each_" if arrays.is_array(type) else "" for type in case.types]
-    return [f"serialize_{prefix}{word}" if back else "serialize_part" for prefix, word, back in zip(each, words, case.leads_back)]
+    """The calls that write the parts of a case: of an array its elements, of a tuple its parts."""
+    out = []
+    for type, back in zip(case.types, case.leads_back):
+        if it.terms.is_row(type):
+            out += words_of(it, it.row(type))
+        elif arrays.is_array(type):
+            out.append(f"serialize_each_{it.word(type.args[0])}")
+        else:
+            out.append(f"serialize_{it.word(type)}" if back else "serialize_part")
+    return out
+
+
+class Taken:
+    """What is known of calls that write parts one after another, taken by part: of a tuple several."""
+
+    def __init__(self, it, case, values, names, written, refused, goes):
+        self.it, self.case, self.values = it, case, values
+        self.groups, at = [], 0
+        for type, x, name in zip(case.types, values, names):
+            count = len(words_of(it, it.row(type))) if it.terms.is_row(type) else 1
+            self.groups.append((type, x, name, slice(at, at + count)))
+            at += count
+        self.all_written, self.all_refused, self.all_goes = written, refused, goes
+        self.written, self.goes = [], []
+        for type, x, name, these in self.groups:
+            self.goes.append(all_goes(goes[these]))
+            self.written.append(self.tuple(type, x, name, these).as_record() if it.terms.is_row(type) else written[these][0])
+
+    def tuple(self, type, x, name, these):
+        row = self.it.row(type, name)
+        return Taken(self.it, row, places(type, x), row.names, self.all_written[these], self.all_refused[these], self.all_goes[these])
+
+    def as_record(self):
+        """That the parts are written, as a tuple of them."""
+        return f"(serialized_record {whole_of(self.it, self.case)} _ _ _ _ _ {Parts(self.it, self.case, self.values).written(self.written)})"
+
+    def refused(self, k):
+        """That the parts are refused, as what the call with this number writes is."""
+        i = next(i for i, (_, _, _, these) in enumerate(self.groups) if these.start <= k < these.stop)
+        type, x, name, these = self.groups[i]
+        why, goes = self.all_refused[k], self.goes
+        if self.it.terms.is_row(type):
+            row = self.tuple(type, x, name, these)
+            why = f"(record_refused {whole_of(self.it, row.case)} _ _ _ _ _ {row.refused(k - these.start)})"
+            goes = goes[:i] + [all_goes(self.all_goes[these.start:k + 1])] + goes[i + 1:]
+        return Parts(self.it, self.case, self.values).refused(i, self.written, goes, why)
 
 
 def wholes_of(case):
@@ -207,15 +249,17 @@ def parts_written(it, case, answers, function, values, as_):
     calls, oks, errs = numbered(words), matched("in-Ok", words), matched("in-Err", words)
     counts = numbered(["is_whole"] * len(wholes_of(case)))
     those_written(it, case, answers, function, values, as_, calls, oks, errs, counts, "returns")
-    if counts:
+    if counts or any(map(it.terms.is_row, case.types)):
         answers.answer(function, "returns-clause-same_value", same_values(it, case, values, oks, counts))
 
 
 def same_values(it, case, values, oks, counts):
     """That each resolver is its own part's; of an array, that there are as many as elements."""
+    if any(map(it.terms.is_row, case.types)):
+        return same_parts(it, case, list(oks))
     same, counts = "tt", dict(zip(wholes_of(case), counts))
     for i, ok in reversed(list(enumerate(oks))):
-        its = f"c.{ok}.ensures.same_value"
+        its = as_elements(it, case, i, f"c.{ok}.ensures.same_value")
         if i in counts:
             belongs = functions_of(it, "belongs", case.types[i].args[0])
             its = f"as_many_kept {belongs} {case.types[i].length} {values[i]} c.{ok}.{case.names[i]}.items c.{counts[i]}.ensures c.{ok}.ensures.same_values"
@@ -223,9 +267,25 @@ def same_values(it, case, values, oks, counts):
     return same
 
 
+def same_parts(it, case, oks):
+    """That each resolver is its own part's, of parts some of which are tuples; takes the calls that wrote them off the list."""
+    each = [same_parts(it, it.row(type), oks) if it.terms.is_row(type) else f"c.{oks.pop(0)}.ensures.same_value" for type in case.types]
+    same = "tt"
+    for its in reversed(each):
+        same = f"({its}, {same})"
+    return same
+
+
+def as_elements(it, case, i, said):
+    """What is said of a part: of a shared slice it is of the elements that the call was passed."""
+    is_slice = i < case.count and case.leads_back[i] and slices.is_shared_slice(case.types[i])
+    return f"(rw c.as_slice-{slices.items_named(it, case, i)}.ensures.value at {said})" if is_slice else said
+
+
 def of_arrays(it, case, answers, values, oks, errs, counts):
     """What is known of the calls that write parts, where arrays are among them: that each is written, and why it isn't."""
-    written, refused = [f"c.{ok}.ensures.serialized" for ok in oks], [f"c.{err}.ensures.refused" for err in errs]
+    written = [as_elements(it, case, i, f"c.{ok}.ensures.serialized") for i, ok in enumerate(oks)]
+    refused = [as_elements(it, case, i, f"c.{err}.ensures.refused") for i, err in enumerate(errs)]
     for i, count in zip(wholes_of(case), counts):
         if arrays.WRITTEN not in answers.items:
             answers.items.append(arrays.WRITTEN)
@@ -246,17 +306,17 @@ def those_written(it, case, answers, function, values, as_, calls, oks, errs, co
     """The answers on these calls one after another, of which the last is followed by the return `end`; `counts` are those that say how long arrays are."""
     written, refusals = of_arrays(it, case, answers, values, oks, errs, counts)
     goes = [f"c.{call}.ensures.goes_on" for call in calls]
-    parts = Parts(it, case, values)
+    parts = Taken(it, case, values, case.names, written, refusals, goes)
     lemma = "record_refused" if case.is_record else "variant_refused"
     for i, err in enumerate(errs):
         # both lemmas take the keys, the meaning, the states and the error
-        refused = f"({lemma} {whole_of(it, case)} _ _ _ _ _ {parts.refused(i, written, goes, refusals[i])})"
+        refused = f"({lemma} {whole_of(it, case)} _ _ _ _ _ {parts.refused(i)})"
         answers.answer(function, f"returns-{err}-clause-refused", as_("refused_as", refused))
         if i:
             answers.answer(function, f"returns-{err}-clause-goes_on", all_goes(goes[:i + 1]))
     lemma = "serialized_record" if case.is_record else "serialized_variant"
-    answers.answer(function, f"{end}-clause-serialized", as_("written_as", f"({lemma} {whole_of(it, case)} _ _ _ _ _ {parts.written(written)})"))
-    if case.count > 1:
+    answers.answer(function, f"{end}-clause-serialized", as_("written_as", f"({lemma} {whole_of(it, case)} _ _ _ _ _ {Parts(it, case, values).written(parts.written)})"))
+    if len(calls) > 1:
         answers.answer(function, f"{end}-clause-goes_on", all_goes(goes))
 
 
@@ -276,7 +336,7 @@ def writing(family):
     for it in family.members:
         for type in it.owners:
             if it.is_written(type):
-                {"Box": box_written, "BoxSlice": run_written, "Option": option_written, "Shared": pointer_written, "Vec": run_written, "BTreeMap": map_written, "WeakShared": weak_written, "array": run_written}[type.name](it, type, answers)
+                {"Box": box_written, "BoxSlice": run_written, "Option": option_written, "Shared": pointer_written, "SharedSlice": slice_written, "Vec": run_written, "BTreeMap": map_written, "WeakShared": weak_written, "array": run_written}[type.name](it, type, answers)
         if it.is_record:
             record_written(it, answers)
             continue
@@ -380,6 +440,8 @@ def each_written(it, item, answers):
     elif t.is_shared(item):
         shared_kept(it, item, answers, each, steps, kept, at)
     else:
+        if it.family.shares:
+            answers.answer(each, "returns-in_err-resolvers-clause-goes_on", "goes_nowhere _")
         answers.answer(each, "returns-in_err-map_err-clause-goes_on", f"goes_both _ _ _ {kept}.goes {steps.goes}")
         answers.answer(each, "returns-in_err-map_err-clause-refused", not_pushed("in_err-map_err"))
         step = f"continues_step {at} _ _ _ {steps.resolver} c.loop-value-test.true c.value-item.is (grind (arith, common_steps)) {kept} {steps.serialized} {steps.belongs} {steps.goes}"
@@ -568,6 +630,8 @@ class BehindShared:
     """What is known of the calls that write what is behind a shared pointer: those that fail, and that none does. `some` and `none` are the arms of what is known of its key.
     Where there is no pointer, it is the key and the value that a function is passed."""
 
+    finish = "finish_shared"
+
     def __init__(self, it, value, pointer, some, none):
         t, inner, key, y = it.terms, f"serialize_{it.word(value)}", f"{pointer}.key", f"{pointer}.value.value"
         if not pointer:
@@ -597,6 +661,13 @@ def keyed_written(it, member, answers):
     answered(answers, function, BehindShared(it, member, "", "c.in-Some", "c.in-None"), "in-Some")
 
 
+def slice_written(it, type, answers):
+    """The answers on a shared slice, and on what each of its elements owns where no other before it has these elements."""
+    if it.is_first_run(type):
+        each_written(it, type.args[0], answers)
+    answered(answers, f"serialize_{it.word(type)}", slices.BehindSlice(it, type), "in-Some")
+
+
 def answered(answers, function, its, some, as_written="{}", as_refused="{}"):
     """These answers; `some` is the arm in which the key is known."""
     for behind, goes, refused in its.refusals:
@@ -604,8 +675,8 @@ def answered(answers, function, its, some, as_written="{}", as_refused="{}"):
             answers.answer(function, f"returns-in-Err{behind}-clause-goes_on", goes)
         answers.answer(function, f"returns-in-Err{behind}-clause-refused", as_refused.format(refused))
     answers.answer(function, f"returns-{some}-clause-serialized", as_written.format(its.known))
-    answers.answer(function, "returns-in-Ok-finish_shared-clause-serialized", as_written.format(its.serialized))
-    answers.answer(function, "returns-in-Ok-finish_shared-clause-goes_on", its.goes)
+    answers.answer(function, f"returns-in-Ok-{its.finish}-clause-serialized", as_written.format(its.serialized))
+    answers.answer(function, f"returns-in-Ok-{its.finish}-clause-goes_on", its.goes)
 
 
 def pointer_written(it, type, answers):
@@ -703,7 +774,7 @@ def reading(family):
         if not it.is_holder:
             measures(it, answers)
         for type in it.owners:
-            {"Box": box_read, "BoxSlice": run_read, "Option": option_read, "Vec": run_read, "BTreeMap": map_proofs.read, "Shared": shared_read, "WeakShared": weak.read, "array": array_read, "tuple": row_read}[type.name](it, type, answers)
+            {"Box": box_read, "BoxSlice": run_read, "Option": option_read, "Vec": run_read, "BTreeMap": map_proofs.read, "Shared": shared_read, "SharedSlice": slices.read, "WeakShared": weak.read, "array": array_read, "tuple": row_read}[type.name](it, type, answers)
         for case in it.cases:
             here = answers if it.is_record or any(case.leads_back) else Answers(family, f"read_{case.n}")
             parts_read(it, case, here, f"read_{case.n}" if here is answers and not it.is_holder else "")
@@ -720,7 +791,8 @@ def measures(it, answers):
 
     def rank(type):
         # a tuple may end where a value in it does
-        return ranks - 1 if it.terms.is_row(type) and not it.family.shares else it.depth(type)
+        holds = it.terms.is_row(type) and any(map(it.terms.is_member, type.args))
+        return ranks - 1 if holds and not it.family.shares else it.depth(type)
 
     def measure(size, rank):
         return f"l.levels * {ranks} + {rank}" if it.family.shares else f"(l.part.pos + {size}) * {ranks} + {rank}"
@@ -728,6 +800,8 @@ def measures(it, answers):
     for type in it.owners:
         size = it.formats.layout(type)[0]
         answers.invariant("", f"decreases-read_{it.word(type)}", measure(size, rank(type)))
+        if slices.is_shared_slice(type):
+            answers.invariant("", f"decreases-read_{slices.items_word(it, type)}", measure(size, rank(type) - 1))
         if skips_none(it, type):
             answers.invariant("", f"decreases-read_each_{it.word(type.args[0])}", measure(size, 0))
     if not it.is_record:

@@ -90,7 +90,7 @@ def check_plain(it: Declaration, type: Type, line: int, behind: bool = False):
 
 def check_owner(it: Declaration, type: Type, line: int):
     """What leads back is a box or a shared pointer, an option of one, a weak pointer, an array of options of boxes, a vector or a boxed slice of these or of
-    the type itself, a vector of tuples, a sorted map, or a box of a vector."""
+    the type itself, a vector of tuples, a shared slice, a sorted map, or a box of a vector."""
     for row in rows_in(it, type):
         check_row(it, row, line)
     if is_map(it, type):
@@ -103,10 +103,14 @@ def check_owner(it: Declaration, type: Type, line: int):
         return
     refuse_nullable(it, type, line)
     if is_named(type, "SharedSlice"):
-        raise Refused(it.path, line, f"`SharedSlice` around `{it.name}` isn't written yet; write a `Shared` of a struct of this file with a `Vec`")
+        check_slice(it, type, line)
+        return
+    if is_named(type, "tuple"):
+        check_tuple(it, type, line)
+        return
     written = (
         f"a `Box<{it.name}>`, a `Shared<{it.name}>`, an `Option` of one, a `Vec` or a `BoxSlice` of `{it.name}`, of `Box<{it.name}>`, `Option<Box<{it.name}>>` or `Shared<{it.name}>`,"
-        f" a `Vec` of tuples, a `Box` of such a `Vec`, or a `BTreeMap` of `{it.name}` is"
+        f" a `Vec` of tuples, a `Box` of such a `Vec`, a `SharedSlice` or a `BTreeMap` of `{it.name}` is"
     )
     if type.name not in ("Box", "BoxSlice", "Option", "Shared", "Vec") or type.own is not None:
         raise Refused(it.path, line, f"`{type.name}` around `{it.name}` isn't written yet; {written}")
@@ -129,6 +133,24 @@ def check_array(it: Declaration, type: Type, line: int):
     if it.kind == "enum" or not is_named(type.args[0], "Option") or not is_pointer(it, type.args[0]) or not 0 < int(type.length) <= MOST_ITEMS or others:
         said = f"an array that leads back to `{it.name}` is written in a struct of up to {MOST_BY_NAME} fields, of 1 to {MOST_ITEMS} options of boxes, if no other field leads back and no other type is recursive with it"
         raise Refused(it.path, line, f"{said}; write a `Vec`")
+
+
+def check_slice(it: Declaration, type: Type, line: int):
+    """A shared slice that leads back has elements of the type itself, which shares nothing else and leads back to no other type. Others aren't proved."""
+    others = any(has_shared(field.type, it.family) and not is_named(field.type, "SharedSlice") for field in it.all_fields())
+    if len(it.family) > 1 or others or not is_member(it, type.args[0]):
+        said = f"a `SharedSlice` that leads back to `{it.name}` is written with elements of `{it.name}`, if no other type is recursive with it and it shares nothing else"
+        raise Refused(it.path, line, f"{said}; write a `Shared` of a struct of this file with a `Vec`")
+
+
+def check_tuple(it: Declaration, type: Type, line: int):
+    """A tuple that leads back outside a vector is a field of a struct, and has options of boxes of the type itself, and numbers. Others aren't proved."""
+    shared = any(has_shared(field.type, it.family) for field in it.all_fields())
+    parts = all(arg.name == "Option" and is_pointer(it, arg) if leads_back(it, arg) else arg.own is None and arg.name in LEAVES for arg in type.args)
+    others = sum(leads_back(it, field.type) for field in it.all_fields()) > 1 or len(it.family) > 1
+    if it.kind == "enum" or shared or others or not parts or len(it.fields) > MOST_BY_NAME or len(type.args) != 2:
+        said = f"a tuple that leads back to `{it.name}` outside a `Vec` is written in a struct, of an option of a box and a number, if no other field leads back and no other type is recursive with it"
+        raise Refused(it.path, line, f"{said}; write a struct of this file")
 
 
 def check_map(it: Declaration, type: Type, line: int):

@@ -3,10 +3,11 @@
 from . import arrays
 from . import chain_specs as chains
 from . import holders
+from . import slices
 from ..formats import ALIGNS
 from ..model import Type
 from .plain import has_boxed, items_of, product
-from .terms import around, brought, brought_owns, element, is_map, something, stem
+from .terms import Placed, around, brought, brought_owns, element, is_map, places, something, stem
 from .weak import SPOKEN as SPOKEN_OF_WEAK
 from .weak import held_in, option_of, vectors, written_out
 
@@ -195,6 +196,7 @@ AROUND = {
     ("Result", 0): "mentions_choice (mentions_variant (mentions_first ({})))",
     ("Result", 1): "mentions_choice (mentions_other (mentions_variant (mentions_first ({}))))",
     ("Shared", 0): "mentions_shared (mentions_one ({}))",
+    ("SharedSlice", 0): "mentions_shared (mentions_run ({}))",
     ("Vec", 0): "mentions_vec ({})",
     ("WeakShared", 0): "mentions_weak (mentions_one ({}))",
     ("array", 0): "mentions_array ({})",
@@ -355,7 +357,7 @@ def meaning(family):
     if family.first.is_holder:
         return meaning_of_holder(family.first)
     has_arrays = any(map(arrays.arrays_of, family.members))
-    lines = vectors(family) + of_each(family, together) + (pairs(family) if family.shares else [])
+    lines = vectors(family) + slices.laws(family) + of_each(family, together) + (pairs(family) if family.shares else [])
     lines += [arrays.LAWS] if has_arrays else []
     for which, type, word in SAID:
         if not family.shares:
@@ -372,7 +374,7 @@ def meaning(family):
         lines += chains.meaning(family.first)
     lines += laws(family)
     body = "\n".join(lines)
-    more = SPOKEN + SPOKEN_OF_WEAK + [(family.declared(family.ordered[0].name, "TheFolds"), " ".join(f"map-{it.name}" for it in family.members)), ("std.proofs.Common", PRELUDE_COMMON)]
+    more = SPOKEN + SPOKEN_OF_WEAK + slices.SPOKEN + [(family.declared(family.ordered[0].name, "TheFolds"), " ".join(f"map-{it.name}" for it in family.members)), ("std.proofs.Common", PRELUDE_COMMON)]
     more += arrays.SPOKEN if has_arrays else []
     aliases = ""
     for it in family.members:
@@ -483,13 +485,15 @@ def splits(it, case):
     for type, name in zip(case.types, case.names):
         each = ["None", f"(Some {name})"] if is_split(it, type) else [name]
         each = list(map(written_out, each)) if it.terms.is_weak(type) else each
+        if is_split(it, type) and it.terms.is_row(type):
+            each = [Placed(values) for values in splits(it, it.row(type, name))]
         out = [values + [one] for values in out for one in each]
     return out
 
 
 def is_split(it, type):
-    """Whether it computes at nothing and at something alone: an option, or a weak pointer, which holds one."""
-    return it.terms.is_option(type) or it.terms.is_weak(type)
+    """Whether it computes at nothing and at something alone: an option, a weak pointer, which holds one, or a tuple of one."""
+    return it.terms.is_option(type) or it.terms.is_weak(type) or it.terms.is_row(type) and any(is_split(it, arg) for arg in type.args)
 
 
 def wholes(it):
@@ -529,6 +533,10 @@ def sources(it):
 def mapped_list(it, type, which, items):
     """That what is said of a vector, or of an array, whose elements were mapped is what is said of the elements."""
     item = element(type)
+    if slices.is_shared_slice(type):
+        own = [it.terms.own(one)[item.own.name] for one in ("meaning", "keys")]
+        (m, k), (n, l) = ((f"(λ (y : {BOTH}). y{place})" for place in PLACES.values()), own)
+        return f"slice_alike _ {m} {n} {k} {l} (λ x. refl) (λ x. refl) {items}.key (run {it.terms.shape(item)}) {items_of(type, items)}"
     each = mapped(it, item, which, items)
     if not arrays.is_array(type):
         return each
@@ -539,6 +547,9 @@ def mapped_list(it, type, which, items):
 def still_mapped(it, type, which, items):
     """What is said of a vector, or of an array, whose elements were mapped. How a tuple was mapped antt doesn't find where some of it has no keys."""
     item = element(type)
+    if slices.is_shared_slice(type):
+        xs = f"(map {it.terms.own('both')[item.name]} {items_of(type, items)})"
+        return it.terms.slice_keys(type, items, xs, *(f"(each_{one} (λ (y : {BOTH}). y{place}) {xs})" for one, place in PLACES.items()))
     if arrays.is_array(type):
         inner = item.args[0] if it.terms.is_option(item) else item
         return f"(array_{which} {type.length} {arrays.of_element(item, which, said_of_mapped(it, inner, which))} (map _ {items}))"
@@ -582,7 +593,7 @@ def rolled(it, which, type, word):
     n, N, own = it.n, it.name, it.terms.own(which)
 
     def step(case, pattern, values):
-        lists = {i: found for i, type_ in enumerate(case.types) if (found := it.terms.list_in(type_, values[i]))}
+        lists = {i: found for i, type_ in enumerate(case.types) if (found := it.terms.list_in(type_, values[i], which))}
         out = f"{fold(it, which, type, 'fold-roll')} {pattern}"
         if it.family.shares:
             out = f"ap (λ (p : {BOTH}). p{PLACES[which]}) ({fold(it, 'both', BOTH, 'fold-roll')} {pattern})"
@@ -636,7 +647,7 @@ def together(it):
 
 def counts_of(it):
     """How many vectors are mapped at once, of each case where several are."""
-    lists = [{i: found for i, type in enumerate(case.types) if (found := it.terms.list_in(type, "x"))} for case in it.cases]
+    lists = [{i: found for i, type in enumerate(case.types) if (found := it.terms.list_in(type, "x", which))} for case in it.cases for which, _, _ in SAID]
     return [len(those) for those in lists if is_together(it, those)]
 
 
@@ -766,7 +777,8 @@ def held_plan(it, case, values):
     out = "no_part_planned"
     for type, x in reversed(list(zip(case.types, values))):
         t = it.terms
-        out = f"(part_planned {t.definitions(type)} {t.shape(type)} {held_keys(it, type, x)} {held_meaning(it, type, x)} {t.planned(type, x, True)} {out})"
+        its = f"(product_planned _ _ _ _ {held_plan(it, it.row(type), places(type, x))})" if t.is_row(type) else t.planned(type, x, True)
+        out = f"(part_planned {t.definitions(type)} {t.shape(type)} {held_keys(it, type, x)} {held_meaning(it, type, x)} {its} {out})"
     return out
 
 
@@ -774,6 +786,11 @@ def held_keys(it, type, x):
     t = it.terms
     if t.is_member(type):
         return f"({t.n_of(type)}_keys {x}.0)"
+    if t.is_row(type):
+        out = "[]"
+        for arg, y in reversed(list(zip(type.args, places(type, x)))):
+            out = f"({held_keys(it, arg, y)} ++ {out})"
+        return out
     if t.leads_back(type) and type.name == "Box":
         return held_keys(it, type.args[0], f"{x}.value")
     if t.is_option(type):
@@ -783,6 +800,9 @@ def held_keys(it, type, x):
     if t.is_shared(type):
         item, y = type.args[0], f"{x}.value.value"
         return f"(rc_keys {x}.key (one {t.shape(item)}) 0 {held_meaning(it, item, y)} {held_keys(it, item, y)})"
+    if t.is_shared_slice(type):
+        n, xs = t.n_of(type.args[0]), f"(map (λ e. e.0) {items_of(type, x)})"
+        return t.slice_keys(type, x, xs, f"(each_meaning {n}_meaning {xs})", f"(each_keys {n}_keys {xs})")
     if t.leads_back(type) and not t.is_member(type.args[0]):
         return "_"
     if t.leads_back(type):
@@ -794,13 +814,15 @@ def held_meaning(it, type, x):
     t = it.terms
     if t.is_member(type):
         return f"({t.n_of(type)}_meaning {x}.0)"
+    if t.is_row(type):
+        return f"(product {product([held_meaning(it, arg, y) for arg, y in zip(type.args, places(type, x))])})"
     if t.leads_back(type) and type.name == "Box":
         return f"(box {held_meaning(it, type.args[0], f'{x}.value')})"
     if t.is_option(type):
         return "(case 0 no_value)" if x == "None" else f"(case_of 1 {held_meaning(it, type.args[0], something(x))})"
     if t.is_weak(type):
         return held_meaning(it, Type("Shared", type.args), held_in(x)) if held_in(x) else "null"
-    if t.is_shared(type):
+    if t.is_shared(type) or t.is_shared_slice(type):
         return f"(shared_value {x}.key)"
     if t.leads_back(type) and not t.is_member(type.args[0]):
         return "_"

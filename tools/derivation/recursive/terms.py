@@ -7,6 +7,7 @@ a value, which is a term itself:
 """
 
 from . import arrays
+from . import slices
 from . import weak
 from ..formats import snake
 from ..model import Type
@@ -83,11 +84,15 @@ class Terms:
         return any(self.has_shared(field.type) for it in self.declaration.family for field in it.all_fields())
 
     def has_shared(self, type):
-        return self.leads_back(type) and (self.is_shared(type) or self.is_weak(type) or any(map(self.has_shared, type.args)))
+        return self.leads_back(type) and (type.name in ("Shared", "SharedSlice", "WeakShared") or any(map(self.has_shared, type.args)))
 
     def is_shared(self, type):
         """Whether it is a shared pointer that leads back."""
         return type.name == "Shared" and self.leads_back(type)
+
+    def is_shared_slice(self, type):
+        """Whether it is a shared slice that leads back."""
+        return type.name == "SharedSlice" and self.leads_back(type)
 
     def is_weak(self, type):
         """Whether it is a weak pointer that leads back."""
@@ -109,14 +114,17 @@ class Terms:
         """Whether it leads back by a shared pointer, or by none: a weak pointer, and an option of a shared one."""
         return self.is_weak(type) or self.is_option(type) and self.is_shared(type.args[0])
 
-    def list_in(self, type, x):
-        """The vector or array that leads back, of a part that is one or a box of one, with the term of its elements; none of other parts."""
+    def list_in(self, type, x, which):
+        """The vector or array that leads back, of a part that is one or a box of one, with the term of its elements; none of other parts. Of a shared slice, of
+        which the keys alone say what its elements do, the term is its own."""
         if not self.leads_back(type) or self.is_member(type):
             return None
+        if self.is_shared_slice(type):
+            return (type, x) if which == "keys" else None
         if arrays.is_array(type):
             return type, x
         if type.name == "Box":
-            return self.list_in(type.args[0], f"{x}.value")
+            return self.list_in(type.args[0], f"{x}.value", which)
         return (type, items_of(type, x)) if is_run(type) or is_map(type) else None
 
     # ---- formats ----
@@ -132,7 +140,7 @@ class Terms:
             return f"(sorted_map {self.plain.key(type)} {self.shape(type.args[1])})"
         item = self.shape(type.args[0])
         shapes = {"Box": f"(boxed (one {item}))", "BoxSlice": f"(boxed (run {item}))", "Option": f"(option_shape {item})", "Vec": f"(vec {item})"}
-        others = {"Shared": f"(shared rc_flavor (one {item}))", "WeakShared": f"(weak rc_flavor (one {item}))", "array": f"(array {type.length} {item})"}
+        others = {"Shared": f"(shared rc_flavor (one {item}))", "SharedSlice": f"(shared rc_flavor (run {item}))", "WeakShared": f"(weak rc_flavor (one {item}))", "array": f"(array {type.length} {item})"}
         return {**shapes, **others}[type.name]
 
     def definitions(self, type):
@@ -167,7 +175,7 @@ class Terms:
         if type.name == "tuple":
             return f"(product {self.parts_meaning(type.args, places(type, x), m)})"
         item = element(type)
-        if type.name == "Shared":
+        if type.name in ("Shared", "SharedSlice"):
             return f"(shared_value {x}.key)"
         if type.name == "WeakShared":
             return self.of_weak("meaning", type, x, m)
@@ -190,6 +198,10 @@ class Terms:
         if type.name == "Shared":
             y = f"{x}.value.value"
             return f"(rc_keys {x}.key (one {self.shape(item)}) 0 {self.meaning(item, y, meant(k))} {self.keys(item, y, k)})"
+        if type.name == "SharedSlice":
+            items = items_of(type, x)
+            meanings, keys = (f"(each_{which} {self.function(which, item, its)} {items})" for which, its in (("meaning", meant(k)), ("keys", k)))
+            return self.slice_keys(type, x, items, meanings, keys)
         if type.name == "WeakShared":
             return self.of_weak("keys", type, x, k)
         if type.name == "Box":
@@ -199,6 +211,10 @@ class Terms:
         if arrays.is_array(type):
             return f"(array_keys {type.length} {self.function('keys', item, k)} {x})"
         return f"(each_keys {self.function('keys', item, k)} {items_of(type, x)})"
+
+    def slice_keys(self, type, x, items, meanings, keys):
+        """The keys of a shared slice: its own, with what it names, and those of its elements."""
+        return f"(rc_keys {x}.key (run {self.shape(type.args[0])}) (length {items}) (list {meanings}) {keys})"
 
     def of_weak(self, which, type, x, m):
         """What is said of a weak pointer: as of the shared one in it, or of nothing."""
@@ -222,6 +238,8 @@ class Terms:
         item = self.shape(type.args[0])
         if type.name == "Shared":
             return f"(rc_flat {r} (one {item}) 0)"
+        if type.name == "SharedSlice":
+            return f"(rc_flat {r} (run {item}) (length {items_of(type, x)}))"
         if type.name == "WeakShared":
             return f"(weak_flat rc_flavor (one {item}) 0 {r})"
         if type.name == "Box":
@@ -284,6 +302,8 @@ class Terms:
             its = f"(held_keyed {self.said(item)} {items})"
         if arrays.is_array(type):
             return f"(keyed_array _ {type.length} {self.said(item)} {x} {its})"
+        if type.name == "SharedSlice":
+            return f"(rc_keyed {x}.key (run {self.shape(item)}) _ _ _ {its})"
         return f"(box_keyed _ _ {its})" if type.name == "BoxSlice" else its
 
     def planned(self, type, x, held):
@@ -323,6 +343,8 @@ class Terms:
         owner = f"vec_planned {D} {X}" if type.name == "Vec" else f"box_planned {D} (run {X})"
         if is_map(type):
             owner = f"map_planned {D} {self.plain.key(type)} {self.shape(type.args[1])}"
+        if type.name == "SharedSlice":
+            owner = f"rc_planned {D} {x}.key (run {X})"
         if held:
             return f"({owner} _ _ _ (run_region_planned {D} {X} _ _ _ ({its})))"
         return f"({owner} _ _ _ (slice_planned {D} {X} {self.said(item)} {self.plan(item)} {items}))"
@@ -422,9 +444,18 @@ class Terms:
         return out
 
 
+class Placed(str):
+    """A tuple that is written out, with its parts."""
+
+    def __new__(cls, parts):
+        its = super().__new__(cls, f"({', '.join(parts)})")
+        its.parts = parts
+        return its
+
+
 def places(type, x):
     """The parts of a tuple."""
-    return [f"{x}.{i}" for i in range(len(type.args))]
+    return x.parts if isinstance(x, Placed) else [f"{x}.{i}" for i in range(len(type.args))]
 
 
 def is_run(type):
@@ -443,8 +474,8 @@ def element(type):
 
 
 def has_elements(type):
-    """Whether it is one of these, or an array."""
-    return is_run(type) or arrays.is_array(type)
+    """Whether it is one of these, a shared slice, or an array."""
+    return is_run(type) or slices.is_shared_slice(type) or arrays.is_array(type)
 
 
 def around(type, term):
@@ -501,8 +532,9 @@ PRELUDE = {
     "archive_core.specs.Variants": "case_of",
     "archive_core.specs.VariantsLayout": "IsChoice is_recursive_choice no_variant_laid_out no_variants_reached variant_laid_out variant_reached",
     "archive_core.specs.Shape": "Name Shape Parts Variants named choice parts boxed shared array weak vec sorted_map str one run text leaf unit bool char non_zero unsigned signed leaf_key str_key part no_part variant no_variant",
-    "archive_core.specs.SharedSources": "rc_flavor rc_flat rc_keys rc_keyed rc_one_planned",
+    "archive_core.specs.SharedSources": "rc_flavor rc_flat rc_keys rc_keyed rc_one_planned rc_planned",
     "archive_core.specs.declared.rc.sources.Shared": "Shared",
+    "archive_core.specs.declared.rc.sources.long.SharedSlice": "SharedSlice",
     "archive_core.specs.declared.rc.sources.weak.WeakShared": "WeakShared",
     "archive_core.specs.SharedLaws": "weak_value weak_flat weak_keyed weak_planned",
     "archive_core.specs.Value": "Value Values case product list box hole number value no_value text_value null shared_value",

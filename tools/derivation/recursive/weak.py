@@ -7,18 +7,16 @@ shared pointer leads to. It is a record of an option, at which a layer that is m
 from .refusals import leads_back
 
 
-def is_weak(declaration, type):
-    return type.name == "WeakShared" and type.own is None and leads_back(declaration, type)
-
-
-def has_weak(declaration, type):
-    return is_weak(declaration, type) or any(has_weak(declaration, arg) for arg in type.args)
+def has_target(declaration, type):
+    """Whether it leads back by a position that is read by itself: by a weak pointer, or by a shared slice."""
+    is_target = type.name in ("SharedSlice", "WeakShared") and type.own is None and leads_back(declaration, type)
+    return is_target or any(has_target(declaration, arg) for arg in type.args)
 
 
 def is_first(it):
-    """Whether this is the first type of the module with a field that leads back by a weak pointer."""
+    """Whether this is the first type of the module with a field that leads back so."""
     all_of = it.formats.module.declarations
-    first = next((its for its in all_of if its.recursive and any(has_weak(its, field.type) for field in its.all_fields())), None)
+    first = next((its for its in all_of if its.recursive and any(has_target(its, field.type) for field in its.all_fields())), None)
     return first is it.declaration
 
 
@@ -151,7 +149,7 @@ fn finish_target<T: Pooled, D: Pooling<T>>(
 
 
 def calls(it):
-    """The text that a module has for weak pointers, with the first type that needs it."""
+    """The text that a module has for weak pointers and shared slices, with the first type that needs it."""
     if not is_first(it):
         return ""
     f = it.formats
