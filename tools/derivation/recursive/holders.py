@@ -9,7 +9,7 @@ from typing import List
 from ..formats import ALIGNS, has_shared
 from ..model import Declaration, Field, Refused, Type
 from .plain import is_shaped
-from .refusals import MOST_BY_NAME, PLAIN
+from .refusals import MOST_BY_NAME, PLAIN, recursive_in
 
 
 def tell(it: Declaration):
@@ -46,13 +46,23 @@ def shares(it: Declaration) -> bool:
 
 
 def check(it: Declaration):
-    """Refuses an enum that holds a recursive type and can't be written."""
+    """Refuses what holds a recursive type and can't be written."""
+    for field in it.all_fields():
+        check_slices(it, field.type, field.line)
     if not it.holds_recursive or it.holder or it.kind == "struct":
         return
     if it.instance_of:
         raise Refused(it.path, it.line, f"`{it.name}` holds a recursive type and is of an enum with type parameters; write one without")
     for field in it.all_fields():
         check_part(it, field.type, field.line)
+
+
+def check_slices(it: Declaration, type: Type, line: int):
+    """A shared slice of recursive values stands in no other type: its views aren't proved."""
+    if type.own is None and type.name == "SharedSlice" and recursive_in(type):
+        raise Refused(it.path, line, f"a `SharedSlice` of the recursive `{recursive_in(type)}` isn't written in another type; write a `Vec` of `Shared`s")
+    for arg in type.args:
+        check_slices(it, arg, line)
 
 
 def check_part(it: Declaration, type: Type, line: int):

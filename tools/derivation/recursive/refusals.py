@@ -136,10 +136,10 @@ def check_array(it: Declaration, type: Type, line: int):
 
 
 def check_slice(it: Declaration, type: Type, line: int):
-    """A shared slice that leads back has elements of the type itself, which shares nothing else and leads back to no other type. Others aren't proved."""
-    others = any(has_shared(field.type, it.family) and not is_named(field.type, "SharedSlice") for field in it.all_fields())
+    """A shared slice that leads back has elements of the type itself, and no other field leads back, nor does another type. Others aren't proved."""
+    others = sum(leads_back(it, field.type) for field in it.all_fields()) > 1
     if len(it.family) > 1 or others or not is_member(it, type.args[0]):
-        said = f"a `SharedSlice` that leads back to `{it.name}` is written with elements of `{it.name}`, if no other type is recursive with it and it shares nothing else"
+        said = f"a `SharedSlice` that leads back to `{it.name}` is written with elements of `{it.name}`, if no other field leads back and no other type is recursive with it"
         raise Refused(it.path, line, f"{said}; write a `Shared` of a struct of this file with a `Vec`")
 
 
