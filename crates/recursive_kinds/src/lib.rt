@@ -5,5 +5,6 @@
 pub mod bush;
 pub mod graph;
 pub mod knot;
+pub mod line;
 pub mod road;
 pub mod rule;
