@@ -52,7 +52,11 @@ fn net(alloc: Global) -> Result<Line, AllocError> {
         key: 5,
         value: station(alloc, 1, Some(built), before)?,
     };
-    line(alloc, "net", vec![in alloc; Some(one), None, Some(shared(7, &two)?)]?)
+    line(
+        alloc,
+        "net",
+        vec![in alloc; Some(one), None, Some(shared(7, &two)?)]?,
+    )
 }
 
 // Station 2 at 0; the stop of the line g at 16, and g at 24; what is before station 1 at 40, and station 1 at 48; the stops of the line net at 64, and net at

@@ -386,9 +386,26 @@ def read(it, type, answers):
     answer("in-Err-finish_target", "refused", f"inl (c.in-Err-finish_target.ensures.refused _ _ {bytes_} {length} {begun} {back})")
 
 
+# What a value of a family is resolved to: the search of the check alone doesn't look at its fields.
+RESOLVED = """use Rattle.std.proofs.Common.{rules}
+use Rattle.DECLARED.{out-NAME}
+use Rattle.HERE.NAMEArchive.resolve.Goals as goal
+
+pub returns : goal.returns
+unfolding out-NAME
+returns c = record {
+  resolved = search rules;
+  refused = search rules;
+  same_length = search rules;
+}
+"""
+
+
 def files(it):
     """The answers on these calls, by their paths."""
     crate, module = it.declaration.crate, it.declaration.module
     here, folder = ".".join((crate, "proofs") + tuple(module)), "/".join(("proofs",) + tuple(module))
     each = {"begin_target": BEGUN, "finish_target": FINISHED} if is_first(it) else {}
+    if len(it.family.members) > 1 and any(is_weak(it.declaration, field.type) for field in it.declaration.all_fields()):
+        each[f"{it.name}Archive/resolve"] = RESOLVED.replace("DECLARED", it.family.declared(it.name)).replace("NAME", it.name)
     return {f"{folder}/{name}/Answers.antt": f"-- {it.written}\n{text.replace('HERE', here)}" for name, text in each.items()}
