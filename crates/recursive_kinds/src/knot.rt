@@ -1,59 +1,50 @@
 //! The knots of a graph.
 
-use archive_core::rc::{Shared, WeakShared};
+use archive_core::rc::Shared;
 
 /// A number, and the knots that it leads to; several may lead to one.
 #[derive(Debug, PartialEq, Drop)]
 pub struct Knot {
     /// Its number.
     pub id: u32,
-    /// Where it was first found, if anywhere.
-    pub from: WeakShared<Knot>,
     /// What it leads to.
     pub next: Vec<Shared<Knot>>,
 }
 
 // Below this line all is written by tools/derive: change what is above it, and run it again.
 
-ghost use Rattle.archive_core.specs.Arrays.{named_twice, no_two, twice_keyed};
 ghost use Rattle.archive_core.specs.CallOutcomes.{ResolvesAs};
 ghost use Rattle.archive_core.specs.Causes.{IsRefused};
 ghost use Rattle.archive_core.specs.Definitions.{no_definition};
-ghost use Rattle.archive_core.specs.Entries.{ReadsBack};
 ghost use Rattle.archive_core.specs.Error.TheVariants.{OutOfMemory};
 ghost use Rattle.archive_core.specs.Expressed.{ExpressesParts};
 ghost use Rattle.archive_core.specs.Fields.{field_in};
 ghost use Rattle.archive_core.specs.PlannedOwners.{one_planned};
 ghost use Rattle.archive_core.specs.Plans.{Serialized};
-ghost use Rattle.archive_core.specs.Pooled.{Entries as Known};
-ghost use Rattle.archive_core.specs.PooledParts.{Awaits};
-ghost use Rattle.archive_core.specs.Pooling.{ReadsShared, RefusesShared};
 ghost use Rattle.archive_core.specs.Runs.{EachBelongs, IsRunRefused, SerializedRun, each_flat, each_keys, each_meaning};
 ghost use Rattle.archive_core.specs.SealsWritten.{IsSealOf, SealsPart};
 ghost use Rattle.archive_core.specs.Seen.{IsPartOf, RefusesPart, ShowsValueOf};
 ghost use Rattle.archive_core.specs.SelfCheck.Laws.{by_schema};
-ghost use Rattle.archive_core.specs.Shape.{one, part, parts, shared, vec, weak};
-ghost use Rattle.archive_core.specs.SharedLaws.{weak_flat};
+ghost use Rattle.archive_core.specs.Shape.{one, part, parts, shared, vec};
 ghost use Rattle.archive_core.specs.SharedSources.{rc_flavor};
 ghost use Rattle.archive_core.specs.Sources.{Read, ReadsAs};
-ghost use Rattle.archive_core.specs.Value.{shared_value, value};
-ghost use Rattle.archive_core.specs.Viewed.{Viewed};
+ghost use Rattle.archive_core.specs.Value.{value};
 ghost use Rattle.archive_core.specs.Writing.{ZeroedPlace};
 ghost use Rattle.archive_core.specs.Written.{GoesOn};
 ghost use Rattle.recursive_kinds.specs.KnotShape.{knot_definitions, knot_has_layout, knot_has_parts, knot_is_align, knot_layout, knot_no_others, knot_parts, knot_shape};
 ghost use Rattle.std.proofs.Common.{lit≤};
-ghost use Rattle.std.specs.Prelude.{IfErr, IfNone, IfOk, IfSome, List, None, Some, length, refl, ℕ, ⊤, ◌+◌, ◌≡◌, ◌≤◌};
+ghost use Rattle.std.specs.Prelude.{IfErr, IfOk, None, Some, length, refl, ◌+◌, ◌≡◌, ◌≤◌};
 
 use archive_core::error::Error;
 use archive_core::place::Place;
-use archive_core::pooling::{Pooled, Pooling, PoolingState};
+use archive_core::pooling::Pooling;
 use archive_core::primitive::ArchivedU32;
-use archive_core::rc::{ArchivedRc, ArchivedRcWeak, RcFlavor, RcWeakResolver};
+use archive_core::rc::{ArchivedRc, RcFlavor};
 use archive_core::recursive::{
     VecAt, before_vec, begin_reading, begin_shared, define_record, expression_of, finish_reading,
     finish_shared, first_expression, named_expression, no_expressions, part_behind, part_of_record,
-    read_part, resolve_named_record_3, seal_of_field, serialize_inner_slice, serialize_part,
-    shared_expression, vec_expression, view_of_field, weak_expression,
+    read_part, resolve_named_record_2, seal_of_field, serialize_inner_slice, serialize_part,
+    shared_expression, vec_expression, view_of_field,
 };
 use archive_core::seal::Seal;
 use archive_core::self_check::BySchema;
@@ -68,15 +59,12 @@ use archive_core::vec::{ArchivedVec, VecResolver};
 use archive_core::view::{RawView, Ref};
 use std::alloc::{AllocError, Global};
 
-/// An archived `Knot`: 16 bytes at a multiple of 4. It is validated by its schema.
+/// An archived `Knot`: 12 bytes at a multiple of 4. It is validated by its schema.
 pub struct ArchivedKnot;
 
 type KnotParts = (
     ArchivedU32,
-    (
-        ArchivedRcWeak<ArchivedKnot, RcFlavor>,
-        (ArchivedVec<ArchivedRc<ArchivedKnot, RcFlavor>>, ()),
-    ),
+    (ArchivedVec<ArchivedRc<ArchivedKnot, RcFlavor>>, ()),
 );
 
 impl ArchivePointee for ArchivedKnot {
@@ -97,16 +85,12 @@ impl ArchivePointee for ArchivedKnot {
 fn knot_expressions(alloc: Global) -> Result<Vec<archive_core::shape::Expr>, AllocError>
     ensures { ExpressesParts knot_parts result }
 {
-    let rest3 = no_expressions(alloc);
-    let rest2 = first_expression(
+    let rest2 = no_expressions(alloc);
+    let rest1 = first_expression(
         vec_expression(
             alloc,
             shared_expression(alloc, named_expression("ArchivedKnot")),
         ),
-        rest3,
-    );
-    let rest1 = first_expression(
-        weak_expression(alloc, named_expression("ArchivedKnot")),
         rest2,
     );
     first_expression(expression_of::<ArchivedU32>(alloc), rest1)
@@ -130,7 +114,7 @@ impl Portable for ArchivedKnot {
     ghost checks = { λ direct. by_schema direct };
 
     fn size() -> usize {
-        16
+        12
     }
 
     fn align() -> usize {
@@ -157,136 +141,7 @@ impl Record for ArchivedKnot {
 /// What is kept of `Knot` between `serialize` and `resolve`.
 #[derive(Drop)]
 pub struct KnotResolver {
-    kept: (
-        <u32 as Archive>::Resolver,
-        (RcWeakResolver, (VecResolver, ())),
-    ),
-}
-
-// The shared value at a position, if the pool has it; none if the position was unknown: then the caller reads it back, and calls `finish_target`.
-fn begin_target<T: Pooled, D: Pooling<T>>(
-    pos: usize,
-    deserializer: &mut D,
-) -> Result<Option<T>, Error>
-    ensures known { IfOk result (λ r. IfSome r (λ s. (bytes : List ℕ) (n : ℕ)
-        → ReadsShared D.keeps T.Archived.definitions bytes pos T.Archived.pointee n
-        (D.entry_of deserializer.old) (D.entry_of deserializer.new) (T.kept s))) }
-    ensures begun { IfOk result (λ r. IfNone r (Awaits D.keeps pos (D.entry_of deserializer.old)
-        (D.entry_of deserializer.new))) }
-    ensures refused { IfErr result (λ e. (bytes : List ℕ) (n : ℕ)
-        → RefusesShared T.Archived.definitions bytes pos T.Archived.pointee n
-        (D.entry_of deserializer.old) e) }
-{
-    match deserializer.start_pooling(pos)? {
-        PoolingState::Pending => Err(Error::CyclicDeserialize),
-        PoolingState::Finished(value) => Ok(Some(value)),
-        PoolingState::Started => Ok(None),
-    }
-}
-
-// The shared value of what was read back at a position since it was started: the pool has it from now on.
-fn finish_target<T: Pooled, D: Pooling<T>>(
-    alloc: Global,
-    pos: usize,
-    value: T::Value,
-    deserializer: &mut D,
-) -> Result<T, Error>
-    ensures read { IfOk result (λ s. (old started : Known) (bytes : List ℕ) (n : ℕ)
-        → Awaits D.keeps pos old started
-        → Viewed T.Archived.definitions bytes pos T.Archived.pointee n
-        → ReadsBack D.keeps T.Archived.definitions bytes pos T.Archived.pointee n started
-        (D.entry_of deserializer.old) (T.Value.meaning value) (T.Value.keys value)
-        → ReadsShared D.keeps T.Archived.definitions bytes pos T.Archived.pointee n old
-        (D.entry_of deserializer.new) (T.kept s)) }
-    ensures refused { IfErr result (λ e. (old started : Known) (bytes : List ℕ) (n : ℕ)
-        → Awaits D.keeps pos old started
-        → ReadsBack D.keeps T.Archived.definitions bytes pos T.Archived.pointee n started
-        (D.entry_of deserializer.old) (T.Value.meaning value) (T.Value.keys value)
-        → e ≡ OutOfMemory) }
-{
-    let shared = T::from_value(alloc, pos, value)?;
-    let kept = shared.clone()?;
-    deserializer.finish_pooling(pos, kept)?;
-    Ok(shared)
-}
-
-// A weak pointer to a value that was written before, if there is one: what is kept of it says so. It means nothing.
-#[derive(Drop)]
-struct WeakKnotAt;
-
-impl ArchiveUnsized for WeakKnotAt {
-    type Archived = ArchivedKnot;
-
-    ghost source_length = { λ _. 0 };
-
-    ghost meaning = { λ _. shared_value 0 };
-
-    ghost keys = { λ _. named_twice };
-
-    ghost keyed = { λ _. twice_keyed };
-
-    ghost planned = { λ _ a s names known named. absurd (no_two names named) };
-
-    ghost one_length = { λ _ _. refl };
-
-    #[inline(always)]
-    fn archived_metadata(&self) -> Result<(), Error> {
-        Ok(())
-    }
-}
-
-impl Archive for WeakKnotAt {
-    type Archived = ArchivedRcWeak<ArchivedKnot, RcFlavor>;
-
-    type Resolver = RcWeakResolver;
-
-    ghost meaning = { λ _. shared_value 0 };
-
-    ghost flat = { λ _ r. weak_flat rc_flavor (one knot_shape) 0 r };
-
-    ghost keys = { λ _. named_twice };
-
-    ghost belongs = { λ _ _. ⊤ };
-
-    ghost in_bulk = { None };
-
-    ghost keyed = { λ _. twice_keyed };
-
-    ghost planned = { λ _ a s names known named. absurd (no_two names named) };
-
-    #[inline(always)]
-    fn resolve(
-        &self,
-        resolver: RcWeakResolver,
-        place: Place<'_, ArchivedRcWeak<ArchivedKnot, RcFlavor>>,
-    ) -> Result<(), Error>
-        requires zeroed { ZeroedPlace 4 place.pos place.bytes.now }
-        requires same_value { ⊤ }
-        ensures { ResolvesAs ⟦<Self::Archived as Portable>⟧ place
-            (⟦<Self as Archive>⟧.flat self.now resolver) result }
-    {
-        let Place { bytes, pos, .. } = place;
-        let none: Option<&WeakKnotAt> = None;
-        ArchivedRcWeak::<ArchivedKnot, RcFlavor>::resolve_from_ref(
-            none,
-            resolver,
-            Place::new(pos, bytes),
-        )
-    }
-
-    #[inline(always)]
-    fn copy_optimization() -> CopyOptimization<Self> {
-        CopyOptimization::disable()
-    }
-
-    #[inline(always)]
-    fn serialize_copied<S: Writer + Keys>(
-        _values: &[Self],
-        _together: usize,
-        _serializer: &mut S,
-    ) -> Result<Option<usize>, Error> {
-        Ok(None)
-    }
+    kept: (<u32 as Archive>::Resolver, (VecResolver, ())),
 }
 
 impl Archive for Knot {
@@ -316,20 +171,20 @@ impl Archive for Knot {
         resolver: Self::Resolver,
         place: Place<'_, Self::Archived>,
     ) -> Result<(), Error>
-        requires zeroed { ZeroedPlace 16 place.pos place.bytes.now }
+        requires zeroed { ZeroedPlace 12 place.pos place.bytes.now }
         requires same_value { ⟦<Self as Archive>⟧.belongs self.now resolver }
         ensures { ResolvesAs ⟦<Self::Archived as Portable>⟧ place
             (⟦<Self as Archive>⟧.flat self.now resolver) result }
     {
         let Place { bytes, pos, .. } = place;
         let KnotResolver { kept } = resolver;
-        let h2: VecAt<ArchivedRc<ArchivedKnot, RcFlavor>> = VecAt::of(self.next.len());
-        resolve_named_record_3::<
-            u32,
-            WeakKnotAt,
-            VecAt<ArchivedRc<ArchivedKnot, RcFlavor>>,
-            ArchivedKnot,
-        >(&self.id, &WeakKnotAt, &h2, kept, Place::new(pos, bytes))
+        let h1: VecAt<ArchivedRc<ArchivedKnot, RcFlavor>> = VecAt::of(self.next.len());
+        resolve_named_record_2::<u32, VecAt<ArchivedRc<ArchivedKnot, RcFlavor>>, ArchivedKnot>(
+            &self.id,
+            &h1,
+            kept,
+            Place::new(pos, bytes),
+        )
     }
 
     #[inline(always)]
@@ -344,49 +199,6 @@ impl Archive for Knot {
         _serializer: &mut S,
     ) -> Result<Option<usize>, Error> {
         Ok(None)
-    }
-}
-
-// Writes what a weak pointer leads to, if its key is unknown.
-#[cycle(serialize_knot)]
-fn serialize_weak_shared_knot<S: Sharing + Writer + ResolverAlloc>(
-    value: &WeakShared<Knot>,
-    serializer: &mut S,
-) -> Result<RcWeakResolver, Error>
-    ensures serialized { IfOk result (λ r. Serialized knot_definitions
-        (weak rc_flavor (one knot_shape)) (⟦<WeakShared<Knot> as Archive>⟧.keys value.now)
-        (⟦<WeakShared<Knot> as Archive>⟧.meaning value.now)
-        (⟦<WeakShared<Knot> as Archive>⟧.flat value.now r) (S.state serializer.old)
-        (S.state serializer.new)) }
-    ensures same_value { IfOk result (λ r. ⟦<WeakShared<Knot> as Archive>⟧.belongs value.now r) }
-    ensures goes_on { GoesOn (S.state serializer.old) (S.state serializer.new) }
-    ensures refused { IfErr result (IsRefused knot_definitions (weak rc_flavor (one knot_shape))
-        (⟦<WeakShared<Knot> as Archive>⟧.keys value.now)
-        (⟦<WeakShared<Knot> as Archive>⟧.meaning value.now) (S.state serializer.old)
-        (S.state serializer.new)) }
-{
-    match &value.value {
-        None => Ok(None),
-        Some(whole) => {
-            let inner = &*whole.value;
-            let known = match begin_shared(whole.key, serializer) {
-                Ok(known) => known,
-                Err(error) => return Err(error),
-            };
-            match known {
-                Some(resolver) => Ok(Some(resolver)),
-                None => {
-                    let kept = match serialize_knot(inner, serializer) {
-                        Ok(kept) => kept,
-                        Err(error) => return Err(error),
-                    };
-                    match finish_shared(whole.key, inner, kept, serializer) {
-                        Ok(resolver) => Ok(Some(resolver)),
-                        Err(error) => Err(error),
-                    }
-                }
-            }
-        }
     }
 }
 
@@ -490,16 +302,12 @@ fn serialize_knot<S: Sharing + Writer + ResolverAlloc>(
         Ok(a0) => a0,
         Err(error) => return Err(error),
     };
-    let a1 = match serialize_weak_shared_knot(&value.from, serializer) {
+    let a1 = match serialize_vec_shared_knot(&value.next, serializer) {
         Ok(a1) => a1,
         Err(error) => return Err(error),
     };
-    let a2 = match serialize_vec_shared_knot(&value.next, serializer) {
-        Ok(a2) => a2,
-        Err(error) => return Err(error),
-    };
     Ok(KnotResolver {
-        kept: (a0, (a1, (a2, ()))),
+        kept: (a0, (a1, ())),
     })
 }
 
@@ -542,39 +350,6 @@ impl<S: Sharing + Writer + ResolverAlloc> SerializeUnsized<S> for Knot {
     }
 }
 
-// Reads a weak pointer back.
-#[cycle(read_knot)]
-fn read_weak_shared_knot<D: Pooling<Shared<Knot>>>(
-    alloc: Global,
-    part: RawView<'_>,
-    levels: usize,
-    deserializer: &mut D,
-) -> Result<WeakShared<Knot>, Error>
-    requires { IsPartOf ⟦<ArchivedRcWeak<ArchivedKnot, RcFlavor> as ArchivePointee>⟧ part }
-    ensures read { IfOk result (Read ⟦<ArchivedRcWeak<ArchivedKnot, RcFlavor> as ArchivePointee>⟧
-        part D.Entries deserializer ⟦<WeakShared<Knot> as Archive>⟧) }
-    ensures refused { IfErr result
-        (RefusesPart ⟦<ArchivedRcWeak<ArchivedKnot, RcFlavor> as ArchivePointee>⟧ part D.Entries
-        deserializer) }
-{
-    let view: Ref<'_, ArchivedRcWeak<ArchivedKnot, RcFlavor>> = Ref::at(part);
-    let Some(target) = view.upgrade() else {
-        return Ok(WeakShared { value: None });
-    };
-    let behind = target.part();
-    let pos = behind.pos;
-    match begin_target::<Shared<Knot>, D>(pos, deserializer)? {
-        Some(value) => Ok(WeakShared { value: Some(value) }),
-        None => {
-            let value = read_knot(alloc, behind, levels, deserializer)?;
-            let shared = finish_target::<Shared<Knot>, D>(alloc, pos, value, deserializer)?;
-            Ok(WeakShared {
-                value: Some(shared),
-            })
-        }
-    }
-}
-
 // Reads a shared value back.
 #[cycle(read_knot)]
 fn read_shared_knot<D: Pooling<Shared<Knot>>>(
@@ -589,11 +364,18 @@ fn read_shared_knot<D: Pooling<Shared<Knot>>>(
     ensures refused { IfErr result (RefusesPart ⟦<ArchivedRc<ArchivedKnot, RcFlavor> as ArchivePointee>⟧
         part D.Entries deserializer) }
 {
-    match begin_reading::<ArchivedKnot, RcFlavor, Shared<Knot>, D>(part, deserializer)? {
+    let known = match begin_reading::<ArchivedKnot, RcFlavor, Shared<Knot>, D>(part, deserializer) {
+        Ok(known) => known,
+        Err(error) => return Err(error),
+    };
+    match known {
         Some(value) => Ok(value),
         None => {
             let behind = part_behind::<ArchivedKnot, RcFlavor>(part);
-            let value = read_knot(alloc, behind, levels, deserializer)?;
+            let value = match read_knot(alloc, behind, levels, deserializer) {
+                Ok(value) => value,
+                Err(error) => return Err(error),
+            };
             finish_reading::<ArchivedKnot, RcFlavor, Shared<Knot>, D>(
                 alloc,
                 part,
@@ -656,23 +438,14 @@ fn read_knot<D: Pooling<Shared<Knot>>>(
         Ok(a0) => a0,
         Err(error) => return Err(error),
     };
-    let p1 = part_of_record::<ArchivedKnot, ArchivedRcWeak<ArchivedKnot, RcFlavor>>(part, 1, 4);
-    let a1 = match read_weak_shared_knot(alloc, p1, levels, deserializer) {
+    let p1 = part_of_record::<ArchivedKnot, ArchivedVec<ArchivedRc<ArchivedKnot, RcFlavor>>>(
+        part, 1, 4,
+    );
+    let a1 = match read_vec_shared_knot(alloc, p1, levels, deserializer) {
         Ok(a1) => a1,
         Err(error) => return Err(error),
     };
-    let p2 = part_of_record::<ArchivedKnot, ArchivedVec<ArchivedRc<ArchivedKnot, RcFlavor>>>(
-        part, 2, 8,
-    );
-    let a2 = match read_vec_shared_knot(alloc, p2, levels, deserializer) {
-        Ok(a2) => a2,
-        Err(error) => return Err(error),
-    };
-    Ok(Knot {
-        id: a0,
-        from: a1,
-        next: a2,
-    })
+    Ok(Knot { id: a0, next: a1 })
 }
 
 impl<D: Pooling<Shared<Knot>>> Deserialize<Knot, D> for ArchivedKnot {
@@ -696,9 +469,6 @@ pub trait KnotView<'a> {
     /// Its number.
     fn id(self) -> Ref<'a, ArchivedU32>;
 
-    /// Where it was first found, if anywhere.
-    fn from(self) -> Ref<'a, ArchivedRcWeak<ArchivedKnot, RcFlavor>>;
-
     /// What it leads to.
     fn next(self) -> Ref<'a, ArchivedVec<ArchivedRc<ArchivedKnot, RcFlavor>>>;
 }
@@ -713,22 +483,13 @@ impl<'a> KnotView<'a> for Ref<'a, ArchivedKnot> {
         view_of_field::<ArchivedKnot, ArchivedU32>(self, 0, 0)
     }
 
-    fn from(self) -> Ref<'a, ArchivedRcWeak<ArchivedKnot, RcFlavor>>
+    fn next(self) -> Ref<'a, ArchivedVec<ArchivedRc<ArchivedKnot, RcFlavor>>>
         ensures buffer { result.bytes.now ≡ self.entry.bytes.now }
         ensures position { result.pos ≡ self.entry.pos + 4 }
         ensures length { result.len ≡ 0 }
         ensures shows { ShowsValueOf result self.entry (field_in 1) }
     {
-        view_of_field::<ArchivedKnot, ArchivedRcWeak<ArchivedKnot, RcFlavor>>(self, 1, 4)
-    }
-
-    fn next(self) -> Ref<'a, ArchivedVec<ArchivedRc<ArchivedKnot, RcFlavor>>>
-        ensures buffer { result.bytes.now ≡ self.entry.bytes.now }
-        ensures position { result.pos ≡ self.entry.pos + 8 }
-        ensures length { result.len ≡ 0 }
-        ensures shows { ShowsValueOf result self.entry (field_in 2) }
-    {
-        view_of_field::<ArchivedKnot, ArchivedVec<ArchivedRc<ArchivedKnot, RcFlavor>>>(self, 2, 8)
+        view_of_field::<ArchivedKnot, ArchivedVec<ArchivedRc<ArchivedKnot, RcFlavor>>>(self, 1, 4)
     }
 }
 
@@ -739,10 +500,6 @@ pub trait KnotSeal<'a> {
 
     /// Its number.
     fn id_mut(self) -> Seal<'a, ArchivedU32>
-        requires { sealed self };
-
-    /// Where it was first found, if anywhere.
-    fn from_mut(self) -> Seal<'a, ArchivedRcWeak<ArchivedKnot, RcFlavor>>
         requires { sealed self };
 
     /// What it leads to.
@@ -761,23 +518,13 @@ impl<'a> KnotSeal<'a> for Seal<'a, ArchivedKnot> {
         seal_of_field::<ArchivedKnot, ArchivedU32>(self, 0, 0)
     }
 
-    fn from_mut(self) -> Seal<'a, ArchivedRcWeak<ArchivedKnot, RcFlavor>>
-        requires come_to { IsSealOf knot_definitions (one ⟦<ArchivedKnot as Portable>⟧.shape) self }
-        ensures { SealsPart knot_definitions (one ⟦<ArchivedKnot as Portable>⟧.shape)
-            ⟦<ArchivedKnot as ArchivePointee>⟧.definitions
-            ⟦<ArchivedRcWeak<ArchivedKnot, RcFlavor> as ArchivePointee>⟧.pointee
-            (self.entry.pos + 4) 0 self.entry result }
-    {
-        seal_of_field::<ArchivedKnot, ArchivedRcWeak<ArchivedKnot, RcFlavor>>(self, 1, 4)
-    }
-
     fn next_mut(self) -> Seal<'a, ArchivedVec<ArchivedRc<ArchivedKnot, RcFlavor>>>
         requires come_to { IsSealOf knot_definitions (one ⟦<ArchivedKnot as Portable>⟧.shape) self }
         ensures { SealsPart knot_definitions (one ⟦<ArchivedKnot as Portable>⟧.shape)
             ⟦<ArchivedKnot as ArchivePointee>⟧.definitions
             ⟦<ArchivedVec<ArchivedRc<ArchivedKnot, RcFlavor>> as ArchivePointee>⟧.pointee
-            (self.entry.pos + 8) 0 self.entry result }
+            (self.entry.pos + 4) 0 self.entry result }
     {
-        seal_of_field::<ArchivedKnot, ArchivedVec<ArchivedRc<ArchivedKnot, RcFlavor>>>(self, 2, 8)
+        seal_of_field::<ArchivedKnot, ArchivedVec<ArchivedRc<ArchivedKnot, RcFlavor>>>(self, 1, 4)
     }
 }

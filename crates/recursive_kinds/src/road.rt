@@ -608,11 +608,18 @@ fn read_shared_road<D: Pooling<Shared<Road>>>(
     ensures refused { IfErr result (RefusesPart ⟦<ArchivedRc<ArchivedRoad, RcFlavor> as ArchivePointee>⟧
         part D.Entries deserializer) }
 {
-    match begin_reading::<ArchivedRoad, RcFlavor, Shared<Road>, D>(part, deserializer)? {
+    let known = match begin_reading::<ArchivedRoad, RcFlavor, Shared<Road>, D>(part, deserializer) {
+        Ok(known) => known,
+        Err(error) => return Err(error),
+    };
+    match known {
         Some(value) => Ok(value),
         None => {
             let behind = part_behind::<ArchivedRoad, RcFlavor>(part);
-            let value = read_road(alloc, behind, levels, deserializer)?;
+            let value = match read_road(alloc, behind, levels, deserializer) {
+                Ok(value) => value,
+                Err(error) => return Err(error),
+            };
             finish_reading::<ArchivedRoad, RcFlavor, Shared<Road>, D>(
                 alloc,
                 part,

@@ -5,39 +5,29 @@ use crate::assertions::{assert_holds, assert_refused, assert_same, assert_writte
 use archive_core::api::{from_bytes, to_bytes};
 use archive_core::error::Error;
 use archive_core::pooling::{Pool, Unpool};
-use archive_core::rc::{Shared, WeakShared};
+use archive_core::rc::Shared;
 use archive_core::view::Ref;
-use recursive_kinds::graph::{ArchivedGraph, Graph, GraphView};
-use recursive_kinds::knot::{ArchivedKnot, Knot, KnotView};
+use recursive_kinds::graph::{ArchivedGraph, Graph};
+use recursive_kinds::knot::Knot;
 use recursive_kinds::road::{ArchivedRoad, Road, RoadView, ViewOfRoad};
 use std::alloc::{AllocError, Global};
 use std::process::Abort;
 use std::rc::Rc;
 
-fn knot(
-    alloc: Global,
-    id: u32,
-    from: Option<Shared<Knot>>,
-    next: Vec<Shared<Knot>>,
-) -> Result<Rc<Knot>, AllocError> {
-    let from = WeakShared { value: from };
-    Ok(Rc::new(alloc, Knot { id, from, next })?)
+fn knot(alloc: Global, id: u32, next: Vec<Shared<Knot>>) -> Result<Rc<Knot>, AllocError> {
+    Ok(Rc::new(alloc, Knot { id, next })?)
 }
 
-// Knot 1 was found from knot 2 and leads to it, and the graph to both.
+// Knot 1 leads to knot 2, and the graph to both.
 fn graph(alloc: Global) -> Result<Graph, AllocError> {
-    let two = knot(alloc, 2, None, Vec::new(alloc))?;
-    let from = Shared {
-        key: 7,
-        value: two.clone()?,
-    };
+    let two = knot(alloc, 2, Vec::new(alloc))?;
     let again = Shared {
         key: 7,
         value: two.clone()?,
     };
     let one = Shared {
         key: 5,
-        value: knot(alloc, 1, Some(from), vec![in alloc; again]?)?,
+        value: knot(alloc, 1, vec![in alloc; again]?)?,
     };
     let two = Shared { key: 7, value: two };
     Ok(Graph {
@@ -46,10 +36,10 @@ fn graph(alloc: Global) -> Result<Graph, AllocError> {
     })
 }
 
-// Knot 2 at 0, which was found from none and leads to none; the pointer to it at 16, and knot 1 at 20; the two pointers at 36, and the graph at 44. A knot is
-// its number, a weak pointer at 4, and at 8 an offset and a length; a pointer is an offset, and 1 a null.
+// Knot 2 at 0, which leads to none; the pointer to it at 12, and knot 1 at 16; the two pointers at 28, and the graph at 36. A knot is its number, and at 4 an
+// offset and a length; a pointer is an offset.
 const GRAPH: &[u8] =
-    b"\x02\0\0\0\x01\0\0\0\xf8\xff\xff\xff\0\0\0\0\xf0\xff\xff\xff\x01\0\0\0\xe8\xff\xff\xff\xf4\xff\xff\xff\x01\0\0\0\xf0\xff\xff\xff\xd8\xff\xff\xffnet\xff\xff\xff\xff\xff\xf0\xff\xff\xff\x02\0\0\0";
+    b"\x02\0\0\0\xfc\xff\xff\xff\0\0\0\0\xf4\xff\xff\xff\x01\0\0\0\xf8\xff\xff\xff\x01\0\0\0\xf4\xff\xff\xff\xe0\xff\xff\xffnet\xff\xff\xff\xff\xff\xf0\xff\xff\xff\x02\0\0\0";
 
 #[test]
 fn each_knot_once(rt: HostRuntime) {
@@ -60,7 +50,7 @@ fn each_knot_once(rt: HostRuntime) {
     let back = made(&rt, "a graph", back);
     assert_written(&rt, rt.alloc(), &back, GRAPH);
     assert_same(&rt, "what is known", pool.is_known(0), true);
-    assert_same(&rt, "what is known", pool.is_known(20), true);
+    assert_same(&rt, "what is known", pool.is_known(16), true);
 }
 
 // Without a pool each pointer has a knot of its own, under the position as its key.
@@ -71,58 +61,15 @@ fn each_pointer_alone(rt: HostRuntime) {
     assert_written(&rt, rt.alloc(), &back, GRAPH);
 }
 
-// The number of the knot that a knot was found from; 0 for none.
-fn found_from(knot: Ref<'_, ArchivedKnot>) -> u32 {
-    match knot.from().upgrade() {
-        Some(from) => from.id().get(),
-        None => 0,
-    }
-}
-
-fn assert_found(rt: &impl Abort, alloc: Global) {
-    let graph = viewed::<ArchivedGraph>(rt, alloc, GRAPH);
-    let Some(one) = graph.nodes().as_slice().get(0) else {
-        assert_holds(rt, "there is a knot", false);
-        return;
-    };
-    let Some(two) = graph.nodes().as_slice().get(1) else {
-        assert_holds(rt, "there are two knots", false);
-        return;
-    };
-    assert_same(rt, "where knot 1 was found", found_from(one.get()), 2);
-    assert_same(rt, "where knot 2 was found", found_from(two.get()), 0);
-}
-
-#[test]
-fn weak_pointers_as_they_lie(rt: HostRuntime) {
-    assert_found(&rt, rt.alloc());
-}
-
 // A knot under the key of a knot that leads to it.
 fn knot_within_itself(alloc: Global) -> Result<Graph, AllocError> {
     let inner = Shared {
         key: 5,
-        value: knot(alloc, 2, None, Vec::new(alloc))?,
+        value: knot(alloc, 2, Vec::new(alloc))?,
     };
     let outer = Shared {
         key: 5,
-        value: knot(alloc, 1, None, vec![in alloc; inner]?)?,
-    };
-    Ok(Graph {
-        name: String::new(alloc),
-        nodes: vec![in alloc; outer]?,
-    })
-}
-
-// A knot that was found from a knot under the same key.
-fn knot_from_itself(alloc: Global) -> Result<Graph, AllocError> {
-    let inner = Shared {
-        key: 5,
-        value: knot(alloc, 2, None, Vec::new(alloc))?,
-    };
-    let outer = Shared {
-        key: 5,
-        value: knot(alloc, 1, Some(inner), Vec::new(alloc))?,
+        value: knot(alloc, 1, vec![in alloc; inner]?)?,
     };
     Ok(Graph {
         name: String::new(alloc),
@@ -139,21 +86,15 @@ fn assert_cyclic(rt: &impl Abort, alloc: Global, graph: Result<Graph, AllocError
 #[test]
 fn knot_that_leads_to_itself(rt: HostRuntime) {
     assert_cyclic(&rt, rt.alloc(), knot_within_itself(rt.alloc()));
-    assert_cyclic(&rt, rt.alloc(), knot_from_itself(rt.alloc()));
 }
 
 // The pointer at 0 leads to the knot at 4, whose own pointer it is.
 const CYCLE: &[u8] =
-    b"\x04\0\0\0\x01\0\0\0\x01\0\0\0\xf4\xff\xff\xff\x01\0\0\0\xf0\xff\xff\xffnet\xff\xff\xff\xff\xff\xf4\xff\xff\xff\x01\0\0\0";
-// The knot at 0 was found from itself: its weak pointer leads there.
-const WEAK_CYCLE: &[u8] =
-    b"\x01\0\0\0\xfc\xff\xff\xff\xf8\xff\xff\xff\0\0\0\0\xf0\xff\xff\xffnet\xff\xff\xff\xff\xff\xf4\xff\xff\xff\x01\0\0\0";
+    b"\x04\0\0\0\x01\0\0\0\xf8\xff\xff\xff\x01\0\0\0\xf4\xff\xff\xffnet\xff\xff\xff\xff\xff\xf4\xff\xff\xff\x01\0\0\0";
 
 #[test]
-fn archives_of_cycles(rt: HostRuntime) {
-    let alloc = rt.alloc();
-    assert_refused::<ArchivedGraph>(&rt, "a cycle", alloc, CYCLE, Error::CyclicValidate);
-    assert_refused::<ArchivedGraph>(&rt, "a cycle", alloc, WEAK_CYCLE, Error::CyclicValidate);
+fn archive_of_a_cycle(rt: HostRuntime) {
+    assert_refused::<ArchivedGraph>(&rt, "a cycle", rt.alloc(), CYCLE, Error::CyclicValidate);
 }
 
 fn shared(alloc: Global, key: u64, road: Road) -> Result<Shared<Road>, AllocError> {

@@ -1069,11 +1069,18 @@ def owner_reading(it, type):
         body = maps.reading(it, type, inside)
     elif type.name == "Shared":
         of = f"{inner}, RcFlavor, {T}, D"
-        body = f"""    match begin_reading::<{of}>(part, deserializer)? {{
+        body = f"""    let known = match begin_reading::<{of}>(part, deserializer) {{
+        Ok(known) => known,
+        Err(error) => return Err(error),
+    }};
+    match known {{
         Some(value) => Ok(value),
         None => {{
             let behind = part_behind::<{inner}, RcFlavor>(part);
-            let value = read_{it.word(item)}(alloc, behind, levels, deserializer)?;
+            let value = match read_{it.word(item)}(alloc, behind, levels, deserializer) {{
+                Ok(value) => value,
+                Err(error) => return Err(error),
+            }};
             finish_reading::<{of}>(alloc, part, value, deserializer)
         }}
     }}

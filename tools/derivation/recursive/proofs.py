@@ -837,18 +837,17 @@ def shared_read(it, type, answers):
     item = type.args[0]
     function, inner = f"read_{it.word(type)}", f"read_{it.word(item)}"
     D, X = it.terms.definitions(item), it.terms.shape(item)
-    begun = "rw c.in-None.is at c.in_ok-value.ensures.begun"
+    begun = "rw c.in-None.is at c.in-Ok.ensures.begun"
     steps = ", ".join(f"c.part_behind-behind.ensures.{clause}" for clause in ("buffer", "position", "length"))
     whole = f"{D} {ARGS} rc_flavor (one {X}) g.D.Entries.keeps"
     answers.answer(
-        function, "returns-in_err-value-in-None-clause-refused",
-        f"err_by c.from_residual-in_err-value-in-None.result c.in_err-value-in-None.field-0.0 _ c.from_residual-in_err-value-in-None.ensures.1"
-        f" (unread_since {whole} _ _ _ c.requires ({begun}) (rw ({steps}) at c.in_err-value-in-None.ensures.refused))",
+        function, f"returns-in-Err-{inner}-clause-refused",
+        f"unread_since {whole} _ _ _ c.requires ({begun}) (rw ({steps}) at c.in-Err-{inner}.ensures.refused)",
     )
-    answers.answer(function, "returns-in-Some-clause-read", "rw c.in-Some.is at c.in_ok-value.ensures.known")
-    since = f"since _ _ ({begun}) (rw ({steps}) at c.in_ok-value-in-None.ensures.read)"
-    answers.answer(function, "returns-in_ok-value-in-None-clause-read", f"if_ok c.finish_reading.result (λ s h. h.{since}) c.finish_reading.ensures.read")
-    answers.answer(function, "returns-in_ok-value-in-None-clause-refused", f"err_from c.finish_reading.result c.finish_reading.ensures.refused (λ e h. h.{since})")
+    answers.answer(function, "returns-in-Some-clause-read", "rw c.in-Some.is at c.in-Ok.ensures.known")
+    since = f"since _ _ ({begun}) (rw ({steps}) at c.in-Ok-{inner}.ensures.read)"
+    answers.answer(function, f"returns-in-Ok-{inner}-clause-read", f"if_ok c.finish_reading.result (λ s h. h.{since}) c.finish_reading.ensures.read")
+    answers.answer(function, f"returns-in-Ok-{inner}-clause-refused", f"err_from c.finish_reading.result c.finish_reading.ensures.refused (λ e h. h.{since})")
 
 
 def row_read(it, type, answers):

@@ -110,7 +110,7 @@ def check_owner(it: Declaration, type: Type, line: int):
         return
     written = (
         f"a `Box<{it.name}>`, a `Shared<{it.name}>`, an `Option` of one, a `Vec` or a `BoxSlice` of `{it.name}`, of `Box<{it.name}>`, `Option<Box<{it.name}>>` or `Shared<{it.name}>`,"
-        f" a `Vec` of tuples, a `Box` of such a `Vec`, a `SharedSlice` or a `BTreeMap` of `{it.name}` is"
+        f" a `Vec` of tuples or, in a struct, of `Option<Shared<{it.name}>>`, a `Box` of a `Vec` of others, a `SharedSlice` or a `BTreeMap` of `{it.name}` is"
     )
     if type.name not in ("Box", "BoxSlice", "Option", "Shared", "Vec") or type.own is not None:
         raise Refused(it.path, line, f"`{type.name}` around `{it.name}` isn't written yet; {written}")
@@ -122,8 +122,7 @@ def refuse_nullable(it: Declaration, type: Type, line: int):
     if is_named(type, "Option") and is_named(type.args[0], "WeakShared"):
         raise Refused(it.path, line, f"an `Option` of a `WeakShared` around `{it.name}` isn't written; write the `WeakShared`, which may be a null itself")
     if any(is_named(part, "WeakShared") for part in (type, *type.args)):
-        said = f"`WeakShared` around `{it.name}` is written in a struct, or in a `Vec` in one that leads back by no other field, if no other type is recursive with it"
-        raise Refused(it.path, line, f"{said}; write an `Option` of a `Shared`")
+        raise Refused(it.path, line, f"`WeakShared` around `{it.name}` is written in a struct, or in a `Vec` in one; write an `Option` of a `Shared`")
 
 
 def check_array(it: Declaration, type: Type, line: int):
@@ -211,10 +210,11 @@ def is_map(it: Declaration, type: Type) -> bool:
 
 
 def is_nullable(it: Declaration, type: Type) -> bool:
-    """Whether it is a weak pointer to a struct that leads back to no other type, or a vector of these in one that leads back by no other field."""
-    is_only = sum(leads_back(it, field.type) for field in it.all_fields()) == 1
-    weak = type.args[0] if is_named(type, "Vec") and is_only else type
-    return it.kind == "struct" and len(it.family) == 1 and is_named(weak, "WeakShared") and is_member(it, weak.args[0])
+    """Whether it is a weak pointer, a vector of these, or one of options of shared pointers, in a struct."""
+    weak = type.args[0] if is_named(type, "Vec") else type
+    if is_named(type, "Vec") and is_named(weak, "Option"):
+        return it.kind == "struct" and is_shared(it, weak)
+    return it.kind == "struct" and is_named(weak, "WeakShared") and is_member(it, weak.args[0])
 
 
 def is_list(it: Declaration, type: Type) -> bool:

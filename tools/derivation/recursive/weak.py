@@ -197,14 +197,23 @@ def reading(it, type):
     }};
     let behind = target.part();
     let pos = behind.pos;
-    match begin_target::<{shared}, D>(pos, deserializer)? {{
+    let known = match begin_target::<{shared}, D>(pos, deserializer) {{
+        Ok(known) => known,
+        Err(error) => return Err(error),
+    }};
+    match known {{
         Some(value) => Ok(WeakShared {{ value: Some(value) }}),
         None => {{
-            let value = read_{it.word(type.args[0])}(alloc, behind, levels, deserializer)?;
-            let shared = finish_target::<{shared}, D>(alloc, pos, value, deserializer)?;
-            Ok(WeakShared {{
-                value: Some(shared),
-            }})
+            let value = match read_{it.word(type.args[0])}(alloc, behind, levels, deserializer) {{
+                Ok(value) => value,
+                Err(error) => return Err(error),
+            }};
+            match finish_target::<{shared}, D>(alloc, pos, value, deserializer) {{
+                Ok(shared) => Ok(WeakShared {{
+                    value: Some(shared),
+                }}),
+                Err(error) => Err(error),
+            }}
         }}
     }}
 """
@@ -355,24 +364,39 @@ def read(it, type, answers):
     some = f"let some = c.in-Some.ensures.some in let far = rw ({view}) at c.in-Some.ensures.offset in"
     there = f"c.part-behind.ensures.buffer, c.part-behind.ensures.position, c.part-behind.ensures.length, some.0, some.1, some.2, {view}"
     bytes_, pos, length = (f"c.part-behind.result.{field}" for field in ("bytes.now", "pos", "len"))
-    begun = "(rw c.in-None.is at c.in_ok-value.ensures.begun)"
-    back = "c.in_ok-value-in-None.ensures.read"
+    begun, inner = "(rw c.in-None.is at c.in-Ok.ensures.begun)", f"read_{it.word(type.args[0])}"
 
     def at_pointer(proof):
         """What is said of what it leads to, as of the pointer."""
         return f"{here} _ _ {{}}far c.requires (rw ({there}) at ({proof}))"
 
-    def failed(name, behind, body):
-        answers.answer(function, f"returns-{name}-clause-refused", f"({some} err_by c.from_residual{behind}.result c.{name}.field-0.0 _ c.from_residual{behind}.ensures.1 ({body}))")
+    def answer(arm, clause, body):
+        answers.answer(function, f"returns-{arm}-clause-{clause}", f"({some} {body})")
 
-    failed("in_err-value", "", f"weak_unread {at_pointer(f'c.in_err-value.ensures.refused {bytes_} {length}').format('')}")
-    known = f"(rw c.in-Some-2.is at c.in_ok-value.ensures.known) {bytes_} {length}"
-    answers.answer(function, "returns-in-Some-2-clause-read", f"({some} weak_back {at_pointer(known).format('_ ')})")
-    refused = f"let a = {begun} in kept_refused {D} {bytes_} {pos} (one {X}) {length} g.D.Entries.keeps _ _ _ a.nothing a.begun a.started a.unknown c.in_err-value-in-None.ensures.refused"
-    failed("in_err-value-in-None", "-in_err-value-in-None", f"weak_unread {at_pointer(refused).format('')}")
-    read_ = f"c.in_ok-shared-in-None.ensures.read _ _ {bytes_} {length} {begun} c.part-behind.ensures.viewed {back}"
-    answers.answer(function, "returns-in_ok-shared-in-None-clause-read", f"({some} weak_back {at_pointer(read_).format('_ ')})")
-    failed("in_err-shared-in-None", "-in_err-shared-in-None", f"inl (c.in_err-shared-in-None.ensures.refused _ _ {bytes_} {length} {begun} {back})")
+    answer("in-Err", "refused", f"weak_unread {at_pointer(f'c.in-Err.ensures.refused {bytes_} {length}').format('')}")
+    known = f"(rw c.in-Some-known.is at c.in-Ok.ensures.known) {bytes_} {length}"
+    answer("in-Some-known", "read", f"weak_back {at_pointer(known).format('_ ')}")
+    refused = f"let a = {begun} in kept_refused {D} {bytes_} {pos} (one {X}) {length} g.D.Entries.keeps _ _ _ a.nothing a.begun a.started a.unknown c.in-Err-{inner}.ensures.refused"
+    answer(f"in-Err-{inner}", "refused", f"weak_unread {at_pointer(refused).format('')}")
+    back = f"c.in-Ok-{inner}.ensures.read"
+    read_ = f"c.in-Ok-finish_target.ensures.read _ _ {bytes_} {length} {begun} c.part-behind.ensures.viewed {back}"
+    answer("in-Ok-finish_target", "read", f"weak_back {at_pointer(read_).format('_ ')}")
+    answer("in-Err-finish_target", "refused", f"inl (c.in-Err-finish_target.ensures.refused _ _ {bytes_} {length} {begun} {back})")
+
+
+# What a value of a family is resolved to: the search of the check alone doesn't look at its fields.
+RESOLVED = """use Rattle.std.proofs.Common.{rules}
+use Rattle.DECLARED.{out-NAME}
+use Rattle.HERE.NAMEArchive.resolve.Goals as goal
+
+pub returns : goal.returns
+unfolding out-NAME
+returns c = record {
+  resolved = search rules;
+  refused = search rules;
+  same_length = search rules;
+}
+"""
 
 
 def files(it):
@@ -380,4 +404,6 @@ def files(it):
     crate, module = it.declaration.crate, it.declaration.module
     here, folder = ".".join((crate, "proofs") + tuple(module)), "/".join(("proofs",) + tuple(module))
     each = {"begin_target": BEGUN, "finish_target": FINISHED} if is_first(it) else {}
+    if len(it.family.members) > 1 and any(it.terms.is_weak(field.type) for field in it.declaration.all_fields()):
+        each[f"{it.name}Archive/resolve"] = RESOLVED.replace("DECLARED", it.family.declared(it.name)).replace("NAME", it.name)
     return {f"{folder}/{name}/Answers.antt": f"-- {it.written}\n{text.replace('HERE', here)}" for name, text in each.items()}

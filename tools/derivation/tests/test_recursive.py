@@ -262,6 +262,27 @@ class Recursive(RepositoryTest):
         self.assertIn(keys, self.beside("specs", "TwigMeaning.antt"))
         self.assertIn("c.as_slice-items", self.beside("proofs", "types", "+serialize_twig", "Answers.antt"))
 
+    def test_a_weak_pointer_leads_to_another_type_of_the_family(self):
+        path = self.put("use archive_core::rc::{Shared, WeakShared};\n#[derive(Drop)]\npub struct Town { places: Vec<Shared<Spot>> }\n#[derive(Drop)]\npub struct Spot { on: WeakShared<Town>, next: Vec<Shared<Spot>> }\n")
+        self.assertEqual(self.run_command(path), (0, ""))
+        text, meaning = self.text(path), self.beside("specs", "TownMeaning.antt")
+        for word in ("struct WeakTownAt;", "fn read_weak_shared_town<D: Pooling<Shared<Spot>> + Pooling<Shared<Town>>>(", "fn serialize_each_shared_spot<", "fn begin_target<"):
+            self.assertEqual(text.count(word), 1, word)
+        self.assertIn("(option_keys (λ s. (rc_keys s.key (one town_shape) 0 (m1 s.value.value) (k1 s.value.value))) t.on.value)", meaning)
+        self.assertNotIn("weaks_alike", meaning)
+        self.assertEqual(self.run_command("--check", path), (0, ""))
+
+    def test_vectors_of_weak_pointers_and_of_options_lie_beside_each_other(self):
+        path = self.put("use archive_core::rc::{Shared, WeakShared};\n#[derive(Drop)]\npub struct Place { before: Vec<WeakShared<Place>>, next: Vec<Option<Shared<Place>>> }\n")
+        self.assertEqual(self.run_command(path), (0, ""))
+        text, meaning = self.text(path), self.beside("specs", "PlaceMeaning.antt")
+        # one function writes what both lead to
+        self.assertEqual(text.count("fn serialize_keyed_place<"), 1)
+        self.assertEqual(text.count("match serialize_keyed_place(inner, whole.key, serializer) {"), 2)
+        for word in ("(weaks_alike _ (λ (y : (Shared (Value × (List Naming)))). (shared_value y.key)) ", "(held_options_planned _ ", "∙ alike_2 (λ vs0 vs1. product (value (list vs0) "):
+            self.assertIn(word, meaning)
+        self.assertEqual(self.run_command("--check", path), (0, ""))
+
     def test_calls_of_one_name_in_a_loop_are_named_after_it(self):
         path = self.put("#[derive(Drop)]\npub enum Page { None, Some(Vec<(Page, u8, Page)>) }\n")
         self.assertEqual(self.run_command(path), (0, ""))

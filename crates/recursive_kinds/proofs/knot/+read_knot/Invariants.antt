@@ -10,9 +10,6 @@ use Rattle.std.specs.Prelude.{◌≡◌, ◌≤◌, pos, length}
 use Rattle.std.specs.Vec.{vec_len, vec_capacity}
 use Rattle.recursive_kinds.proofs.knot.+read_knot.Given as goal
 
-abbrev pub decreases-read_weak_shared_knot : goal.decreases-read_weak_shared_knot
-decreases-read_weak_shared_knot g l = l.levels * 5 + 1
-
 abbrev pub decreases-read_shared_knot : goal.decreases-read_shared_knot
 decreases-read_shared_knot g l = l.levels * 5 + 1
 

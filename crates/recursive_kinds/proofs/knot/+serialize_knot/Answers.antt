@@ -1,100 +1,31 @@
 -- Written by tools/derive: change the declaration, and run it again.
-use Rattle.archive_core.proofs.Causes.{err_by, goes_both, goes_nowhere, explains_sooner}
+use Rattle.archive_core.proofs.Causes.{err_by, goes_both, goes_nowhere}
 use Rattle.archive_core.proofs.Owners.{vec_refused}
 use Rattle.archive_core.proofs.Planned.{one_owned}
 use Rattle.archive_core.proofs.PlannedParts.{serialized_no_part, serialized_part, serialized_record, record_refused, first_refused, later_refused}
 use Rattle.archive_core.proofs.RunRegions.{run_owned, long_run_refused}
 use Rattle.archive_core.proofs.Runs.{continues_step, continues_broken, continues_end, belongs_end}
-use Rattle.archive_core.proofs.WrittenVariants.{serialized_empty_case}
 use Rattle.archive_core.proofs.recursive.KeysBegun.{region_refused}
-use Rattle.archive_core.specs.Causes.{no_memory, ValuePart, part_itself, HindersPart, stands_too_far, owner_shared, owner_weak, shared_too_long, shared_owner, weak_owner, IsRefused}
-use Rattle.archive_core.specs.Definitions.{Definitions, both, no_definition}
-use Rattle.archive_core.specs.Denotes.{Naming, fills_null}
-use Rattle.archive_core.specs.Error.{Error}
+use Rattle.archive_core.specs.Causes.{no_memory}
+use Rattle.archive_core.specs.Definitions.{both, no_definition}
 use Rattle.archive_core.specs.Error.TheVariants.{OutOfMemory}
 use Rattle.archive_core.specs.Held.{written_as, refused_as}
-use Rattle.archive_core.specs.Options.{option_keys}
 use Rattle.archive_core.specs.PartsPlanned.{part_planned, no_part_planned}
 use Rattle.archive_core.specs.PlannedOwners.{vec_planned, slice_planned, each_planned}
-use Rattle.archive_core.specs.Plans.{Serialized, serialized, cursor, plans_null}
-use Rattle.archive_core.specs.Reads.{SchemaTable}
 use Rattle.archive_core.specs.Runs.{each_keys, each_meaning}
-use Rattle.archive_core.specs.Shape.{Shape, named, choice, shared, weak, vec, one, leaf, unsigned, part, no_part, variant, no_variant, Pointee, number as number_kind}
-use Rattle.archive_core.specs.SharedLaws.{weak_value, weak_planned, as_weak}
+use Rattle.archive_core.specs.Shape.{shared, vec, one, leaf, unsigned, part, no_part, variant, number as number_kind}
 use Rattle.archive_core.specs.SharedSources.{rc_flavor, rc_keys, rc_one_planned}
-use Rattle.archive_core.specs.Value.{Value, case, list, number, value, no_value, null, shared_value}
-use Rattle.archive_core.specs.WriterState.{WriterState}
+use Rattle.archive_core.specs.Value.{list, number, value, no_value, shared_value}
 use Rattle.recursive_kinds.proofs.knot.+serialize_knot.Goals.{serialize_each_shared_knot-in-Some+in_ok-map_err-in-Some, serialize_each_shared_knot-in-None+in-Ok-serialize_knot+in-Ok-finish_shared+in_ok-map_err-in-None}
 use Rattle.recursive_kinds.specs.KnotMeaning.{knot_meaning, knot_keys, knot_planned, knot_means, knot_has_keys}
 use Rattle.recursive_kinds.specs.KnotShape.{knot_shape, knot_definitions, knot_parts, knot_part_definitions, knot_has_parts}
 use Rattle.recursive_kinds.specs.declared.knot.Knot.{out-Knot}
-use Rattle.std.proofs.Common.{inl, inr, ◌≡◌, ◌<◌, ◌++◌, [], ℕ, List, length, refl, arith, pos, ⊎_elim}
+use Rattle.std.proofs.Common.{◌≡◌, ◌<◌, ◌++◌, [], length, refl, arith, pos}
 use Rattle.std.proofs.Math.ListN.{drop_of_length-le}
 use Rattle.std.proofs.lemmas.Grind.{common_steps}
 use Rattle.std.specs.Int.{w32}
-use Rattle.std.specs.Prelude.{ℕ, List, [], ◌++◌, ◌≡◌, refl, pos, length, codes}
+use Rattle.std.specs.Prelude.{[], ◌++◌, ◌≡◌, refl, pos, length}
 use Rattle.recursive_kinds.proofs.knot.+serialize_knot.Goals as goal
-
-weak_serialized : (D : Definitions) (P : Pointee) (ks : List Naming) (v flat : Value) (old new : WriterState) → Serialized D (shared rc_flavor P) ks v flat old new → Serialized D (weak rc_flavor P) ks v flat old new
-weak_serialized D P ks v flat old new (serialized writes planned) = serialized writes (λ below s names k m. (
-    let q = planned below s names k m in
-    record { flat = q.flat; steps = q.steps; stop = q.stop; plans = as_weak q.plans; such = q.such }))
-
-null_serialized : (D : Definitions) (P : Pointee) (w : WriterState) → Serialized D (weak rc_flavor P) [] null null w w
-null_serialized D P w = as_null (serialized_empty_case D (codes "") (variant no_part no_variant) 0 refl w)
-  where
-    as_null : Serialized D (choice (codes "") (variant no_part no_variant)) [] (case 0 no_value) (case 0 no_value) w w → Serialized D (weak rc_flavor P) [] null null w w
-    as_null (serialized writes planned) = serialized
-        (record { added = writes.added; grown = writes.grown; states = writes.states; finished = λ k n. elim n [ ]; appends = writes.appends; fills = λ x c. fills_null })
-        (λ below s names k n. record { flat = null; steps = []; stop = cursor w; plans = plans_null; such = (refl, record { position = refl; keys = λ key. refl }) })
-
-weak_part : {s : SchemaTable} {P : Pointee} {v : Value} {o : ℕ} {Y : Shape} {w : Value} {e : Error} → ValuePart s (shared rc_flavor P) v o Y w → HindersPart Y w e
-    → (Z : Shape) × ValuePart s (weak rc_flavor P) v o Z w × HindersPart Z w e
-weak_part {P = P} part_itself (stands_too_far owner_shared there far) = (weak rc_flavor P, part_itself, stands_too_far owner_weak there far)
-weak_part {P = P} part_itself (shared_too_long shared_owner long) = (weak rc_flavor P, part_itself, shared_too_long weak_owner long)
-
-weak_refused : (D : Definitions) (P : Pointee) (ks : List Naming) (v : Value) (old new : WriterState) (e : Error) → IsRefused D (shared rc_flavor P) ks v old new e → IsRefused D (weak rc_flavor P) ks v old new e
-weak_refused D P ks v old new e h = explains_sooner _ _ _ _ old new e
-    (λ x. record {
-      named = x.named;
-      cause = λ below s names k m. (
-          let q = x.cause below s names k m in
-          record {
-            flat = q.flat;
-            steps = q.steps;
-            stop = q.stop;
-            plans = as_weak q.plans;
-            such = ⊎_elim inl (λ y. (let z = weak_part y.3 y.4 in inr (y.0, z.0, y.2, z.1, z.2))) q.such;
-          });
-    })
-    (λ m x below s names k l. (let q = x below s names k l in record { flat = q.flat; steps = q.steps; stop = q.stop; plans = as_weak q.plans; such = q.such })) h
-
-pub serialize_weak_shared_knot-returns-in-None-clause-serialized : goal.serialize_weak_shared_knot-returns-in-None-clause-serialized
-serialize_weak_shared_knot-returns-in-None-clause-serialized g t c = rw c.in-None.is (null_serialized knot_definitions (one knot_shape) _)
-
-pub serialize_weak_shared_knot-returns-in-Err-clause-refused : goal.serialize_weak_shared_knot-returns-in-Err-clause-refused
-serialize_weak_shared_knot-returns-in-Err-clause-refused g t c = rw c.in-Some.is (weak_refused knot_definitions (one knot_shape) _ _ _ _ _ (c.in-Err.ensures.refused.said knot_definitions rc_flavor (one knot_shape) 0 (knot_keys c.in-Some.whole.value.value) (knot_meaning c.in-Some.whole.value.value)))
-
-pub serialize_weak_shared_knot-returns-in-Err-serialize_knot-clause-goes_on : goal.serialize_weak_shared_knot-returns-in-Err-serialize_knot-clause-goes_on
-serialize_weak_shared_knot-returns-in-Err-serialize_knot-clause-goes_on g t c = (goes_both _ _ _ c.begin_shared.ensures.goes_on c.serialize_knot.ensures.goes_on)
-
-pub serialize_weak_shared_knot-returns-in-Err-serialize_knot-clause-refused : goal.serialize_weak_shared_knot-returns-in-Err-serialize_knot-clause-refused
-serialize_weak_shared_knot-returns-in-Err-serialize_knot-clause-refused g t c = rw c.in-Some.is (weak_refused knot_definitions (one knot_shape) _ _ _ _ _ (let same : c.deref-inner.result.now ≡ c.in-Some.whole.value.value = grind (arith, common_steps) in rw (← same) (region_refused knot_definitions (one knot_shape) 0 c.in-Some.whole.key _ _ rc_flavor _ _ _ _ (rw c.in-None-known.is at c.in-Ok.ensures.begun) c.serialize_knot.ensures.goes_on (one_owned knot_definitions knot_shape _ _ _ _ _ c.in-Err-serialize_knot.ensures.refused))))
-
-pub serialize_weak_shared_knot-returns-in-Err-finish_shared-clause-goes_on : goal.serialize_weak_shared_knot-returns-in-Err-finish_shared-clause-goes_on
-serialize_weak_shared_knot-returns-in-Err-finish_shared-clause-goes_on g t c = (c.finish_shared.ensures.goes_on.since _ _ (rw c.in-None-known.is at c.in-Ok.ensures.begun) c.serialize_knot.ensures.goes_on)
-
-pub serialize_weak_shared_knot-returns-in-Err-finish_shared-clause-refused : goal.serialize_weak_shared_knot-returns-in-Err-finish_shared-clause-refused
-serialize_weak_shared_knot-returns-in-Err-finish_shared-clause-refused g t c = rw c.in-Some.is (weak_refused knot_definitions (one knot_shape) _ _ _ _ _ (let same : c.deref-inner.result.now ≡ c.in-Some.whole.value.value = grind (arith, common_steps) in rw (← same) (c.in-Err-finish_shared.ensures.refused.since rc_flavor _ _ (rw c.in-None-known.is at c.in-Ok.ensures.begun) c.serialize_knot.ensures.goes_on c.in-Ok-serialize_knot.ensures.serialized)))
-
-pub serialize_weak_shared_knot-returns-in-Some-known-clause-serialized : goal.serialize_weak_shared_knot-returns-in-Some-known-clause-serialized
-serialize_weak_shared_knot-returns-in-Some-known-clause-serialized g t c = rw c.in-Some.is (weak_serialized knot_definitions (one knot_shape) _ _ _ _ _ ((rw c.in-Some-known.is at c.in-Ok.ensures.known).said knot_definitions rc_flavor (one knot_shape) 0 (knot_keys c.in-Some.whole.value.value) (knot_meaning c.in-Some.whole.value.value)))
-
-pub serialize_weak_shared_knot-returns-in-Ok-finish_shared-clause-serialized : goal.serialize_weak_shared_knot-returns-in-Ok-finish_shared-clause-serialized
-serialize_weak_shared_knot-returns-in-Ok-finish_shared-clause-serialized g t c = rw c.in-Some.is (weak_serialized knot_definitions (one knot_shape) _ _ _ _ _ (let same : c.deref-inner.result.now ≡ c.in-Some.whole.value.value = grind (arith, common_steps) in rw (← same) (c.in-Ok-finish_shared.ensures.shared.since rc_flavor _ _ (rw c.in-None-known.is at c.in-Ok.ensures.begun) c.serialize_knot.ensures.goes_on c.in-Ok-serialize_knot.ensures.serialized)))
-
-pub serialize_weak_shared_knot-returns-in-Ok-finish_shared-clause-goes_on : goal.serialize_weak_shared_knot-returns-in-Ok-finish_shared-clause-goes_on
-serialize_weak_shared_knot-returns-in-Ok-finish_shared-clause-goes_on g t c = (c.finish_shared.ensures.goes_on.since _ _ (rw c.in-None-known.is at c.in-Ok.ensures.begun) c.serialize_knot.ensures.goes_on)
 
 pub serialize_each_shared_knot-returns-in_err-resolvers-clause-refused : goal.serialize_each_shared_knot-returns-in_err-resolvers-clause-refused
 serialize_each_shared_knot-returns-in_err-resolvers-clause-refused g t c = err_by c.from_residual.result OutOfMemory _ c.from_residual.ensures.1 no_memory
@@ -160,22 +91,16 @@ pub serialize_vec_shared_knot-returns-in-Err-serialize_inner_slice-clause-refuse
 serialize_vec_shared_knot-returns-in-Err-serialize_inner_slice-clause-refused g t c = (rw c.as_slice-items.ensures.value at c.in-Err-serialize_inner_slice.ensures.refused).since _ c.serialize_each_shared_knot.ensures.goes_on (rw c.as_slice-items.ensures.value at c.in-Ok.ensures.serialized)
 
 pub serialize_knot-returns-in-Err-clause-refused : goal.serialize_knot-returns-in-Err-clause-refused
-serialize_knot-returns-in-Err-clause-refused g t c = (refused_as (knot_has_keys c.args.value.now) (knot_means c.args.value.now) (record_refused knot_definitions knot_shape knot_part_definitions knot_parts knot_has_parts _ _ _ _ _ (first_refused no_definition (both knot_definitions (both knot_definitions no_definition)) (leaf (number_kind unsigned w32)) (part (weak rc_flavor (one knot_shape)) (part (vec (shared rc_flavor (one knot_shape))) no_part)) [] ((option_keys (λ s. (rc_keys s.key (one knot_shape) 0 (knot_meaning s.value.value) (knot_keys s.value.value))) (out-Knot c.args.value.now).from.value) ++ ((each_keys (λ y. (rc_keys y.key (one knot_shape) 0 (knot_meaning y.value.value) (knot_keys y.value.value))) (out-Knot c.args.value.now).next.items) ++ [])) (number (pos (out-Knot c.args.value.now).id)) (value (weak_value (λ s. (shared_value s.key)) (out-Knot c.args.value.now).from.value) (value (list (each_meaning (λ y. (shared_value y.key)) (out-Knot c.args.value.now).next.items)) no_value)) _ _ _ (part_planned knot_definitions (weak rc_flavor (one knot_shape)) (option_keys (λ s. (rc_keys s.key (one knot_shape) 0 (knot_meaning s.value.value) (knot_keys s.value.value))) (out-Knot c.args.value.now).from.value) (weak_value (λ s. (shared_value s.key)) (out-Knot c.args.value.now).from.value) (weak_planned knot_definitions rc_flavor (one knot_shape) (λ s. (rc_keys s.key (one knot_shape) 0 (knot_meaning s.value.value) (knot_keys s.value.value))) (λ s. (shared_value s.key)) (λ s. (rc_one_planned knot_definitions s.key (one knot_shape) knot_shape refl _ _ (knot_planned s.value.value))) (out-Knot c.args.value.now).from.value) (part_planned knot_definitions (vec (shared rc_flavor (one knot_shape))) (each_keys (λ y. (rc_keys y.key (one knot_shape) 0 (knot_meaning y.value.value) (knot_keys y.value.value))) (out-Knot c.args.value.now).next.items) (list (each_meaning (λ y. (shared_value y.key)) (out-Knot c.args.value.now).next.items)) (vec_planned knot_definitions (shared rc_flavor (one knot_shape)) _ _ _ (slice_planned knot_definitions (shared rc_flavor (one knot_shape)) (λ y. (rc_keys y.key (one knot_shape) 0 (knot_meaning y.value.value) (knot_keys y.value.value))) (λ y. (shared_value y.key)) (λ y. (rc_one_planned knot_definitions y.key (one knot_shape) knot_shape refl _ _ (knot_planned y.value.value))) (out-Knot c.args.value.now).next.items)) no_part_planned)) c.in-Err.ensures.refused)))
-
-pub serialize_knot-returns-in-Err-serialize_weak_shared_knot-clause-refused : goal.serialize_knot-returns-in-Err-serialize_weak_shared_knot-clause-refused
-serialize_knot-returns-in-Err-serialize_weak_shared_knot-clause-refused g t c = (refused_as (knot_has_keys c.args.value.now) (knot_means c.args.value.now) (record_refused knot_definitions knot_shape knot_part_definitions knot_parts knot_has_parts _ _ _ _ _ (later_refused no_definition (both knot_definitions (both knot_definitions no_definition)) (leaf (number_kind unsigned w32)) (part (weak rc_flavor (one knot_shape)) (part (vec (shared rc_flavor (one knot_shape))) no_part)) [] ((option_keys (λ s. (rc_keys s.key (one knot_shape) 0 (knot_meaning s.value.value) (knot_keys s.value.value))) (out-Knot c.args.value.now).from.value) ++ ((each_keys (λ y. (rc_keys y.key (one knot_shape) 0 (knot_meaning y.value.value) (knot_keys y.value.value))) (out-Knot c.args.value.now).next.items) ++ [])) (number (pos (out-Knot c.args.value.now).id)) (value (weak_value (λ s. (shared_value s.key)) (out-Knot c.args.value.now).from.value) (value (list (each_meaning (λ y. (shared_value y.key)) (out-Knot c.args.value.now).next.items)) no_value)) _ _ _ _ _ c.in-Ok.ensures.serialized c.serialize_part.ensures.goes_on c.serialize_weak_shared_knot.ensures.goes_on (first_refused knot_definitions (both knot_definitions no_definition) (weak rc_flavor (one knot_shape)) (part (vec (shared rc_flavor (one knot_shape))) no_part) (option_keys (λ s. (rc_keys s.key (one knot_shape) 0 (knot_meaning s.value.value) (knot_keys s.value.value))) (out-Knot c.args.value.now).from.value) ((each_keys (λ y. (rc_keys y.key (one knot_shape) 0 (knot_meaning y.value.value) (knot_keys y.value.value))) (out-Knot c.args.value.now).next.items) ++ []) (weak_value (λ s. (shared_value s.key)) (out-Knot c.args.value.now).from.value) (value (list (each_meaning (λ y. (shared_value y.key)) (out-Knot c.args.value.now).next.items)) no_value) _ _ _ (part_planned knot_definitions (vec (shared rc_flavor (one knot_shape))) (each_keys (λ y. (rc_keys y.key (one knot_shape) 0 (knot_meaning y.value.value) (knot_keys y.value.value))) (out-Knot c.args.value.now).next.items) (list (each_meaning (λ y. (shared_value y.key)) (out-Knot c.args.value.now).next.items)) (vec_planned knot_definitions (shared rc_flavor (one knot_shape)) _ _ _ (slice_planned knot_definitions (shared rc_flavor (one knot_shape)) (λ y. (rc_keys y.key (one knot_shape) 0 (knot_meaning y.value.value) (knot_keys y.value.value))) (λ y. (shared_value y.key)) (λ y. (rc_one_planned knot_definitions y.key (one knot_shape) knot_shape refl _ _ (knot_planned y.value.value))) (out-Knot c.args.value.now).next.items)) no_part_planned) c.in-Err-serialize_weak_shared_knot.ensures.refused))))
-
-pub serialize_knot-returns-in-Err-serialize_weak_shared_knot-clause-goes_on : goal.serialize_knot-returns-in-Err-serialize_weak_shared_knot-clause-goes_on
-serialize_knot-returns-in-Err-serialize_weak_shared_knot-clause-goes_on g t c = (goes_both _ _ _ c.serialize_part.ensures.goes_on c.serialize_weak_shared_knot.ensures.goes_on)
+serialize_knot-returns-in-Err-clause-refused g t c = (refused_as (knot_has_keys c.args.value.now) (knot_means c.args.value.now) (record_refused knot_definitions knot_shape knot_part_definitions knot_parts knot_has_parts _ _ _ _ _ (first_refused no_definition (both knot_definitions no_definition) (leaf (number_kind unsigned w32)) (part (vec (shared rc_flavor (one knot_shape))) no_part) [] ((each_keys (λ y. (rc_keys y.key (one knot_shape) 0 (knot_meaning y.value.value) (knot_keys y.value.value))) (out-Knot c.args.value.now).next.items) ++ []) (number (pos (out-Knot c.args.value.now).id)) (value (list (each_meaning (λ y. (shared_value y.key)) (out-Knot c.args.value.now).next.items)) no_value) _ _ _ (part_planned knot_definitions (vec (shared rc_flavor (one knot_shape))) (each_keys (λ y. (rc_keys y.key (one knot_shape) 0 (knot_meaning y.value.value) (knot_keys y.value.value))) (out-Knot c.args.value.now).next.items) (list (each_meaning (λ y. (shared_value y.key)) (out-Knot c.args.value.now).next.items)) (vec_planned knot_definitions (shared rc_flavor (one knot_shape)) _ _ _ (slice_planned knot_definitions (shared rc_flavor (one knot_shape)) (λ y. (rc_keys y.key (one knot_shape) 0 (knot_meaning y.value.value) (knot_keys y.value.value))) (λ y. (shared_value y.key)) (λ y. (rc_one_planned knot_definitions y.key (one knot_shape) knot_shape refl _ _ (knot_planned y.value.value))) (out-Knot c.args.value.now).next.items)) no_part_planned) c.in-Err.ensures.refused)))
 
 pub serialize_knot-returns-in-Err-serialize_vec_shared_knot-clause-refused : goal.serialize_knot-returns-in-Err-serialize_vec_shared_knot-clause-refused
-serialize_knot-returns-in-Err-serialize_vec_shared_knot-clause-refused g t c = (refused_as (knot_has_keys c.args.value.now) (knot_means c.args.value.now) (record_refused knot_definitions knot_shape knot_part_definitions knot_parts knot_has_parts _ _ _ _ _ (later_refused no_definition (both knot_definitions (both knot_definitions no_definition)) (leaf (number_kind unsigned w32)) (part (weak rc_flavor (one knot_shape)) (part (vec (shared rc_flavor (one knot_shape))) no_part)) [] ((option_keys (λ s. (rc_keys s.key (one knot_shape) 0 (knot_meaning s.value.value) (knot_keys s.value.value))) (out-Knot c.args.value.now).from.value) ++ ((each_keys (λ y. (rc_keys y.key (one knot_shape) 0 (knot_meaning y.value.value) (knot_keys y.value.value))) (out-Knot c.args.value.now).next.items) ++ [])) (number (pos (out-Knot c.args.value.now).id)) (value (weak_value (λ s. (shared_value s.key)) (out-Knot c.args.value.now).from.value) (value (list (each_meaning (λ y. (shared_value y.key)) (out-Knot c.args.value.now).next.items)) no_value)) _ _ _ _ _ c.in-Ok.ensures.serialized c.serialize_part.ensures.goes_on (goes_both _ _ _ c.serialize_weak_shared_knot.ensures.goes_on c.serialize_vec_shared_knot.ensures.goes_on) (later_refused knot_definitions (both knot_definitions no_definition) (weak rc_flavor (one knot_shape)) (part (vec (shared rc_flavor (one knot_shape))) no_part) (option_keys (λ s. (rc_keys s.key (one knot_shape) 0 (knot_meaning s.value.value) (knot_keys s.value.value))) (out-Knot c.args.value.now).from.value) ((each_keys (λ y. (rc_keys y.key (one knot_shape) 0 (knot_meaning y.value.value) (knot_keys y.value.value))) (out-Knot c.args.value.now).next.items) ++ []) (weak_value (λ s. (shared_value s.key)) (out-Knot c.args.value.now).from.value) (value (list (each_meaning (λ y. (shared_value y.key)) (out-Knot c.args.value.now).next.items)) no_value) _ _ _ _ _ c.in-Ok-serialize_weak_shared_knot.ensures.serialized c.serialize_weak_shared_knot.ensures.goes_on c.serialize_vec_shared_knot.ensures.goes_on (first_refused knot_definitions no_definition (vec (shared rc_flavor (one knot_shape))) no_part (each_keys (λ y. (rc_keys y.key (one knot_shape) 0 (knot_meaning y.value.value) (knot_keys y.value.value))) (out-Knot c.args.value.now).next.items) [] (list (each_meaning (λ y. (shared_value y.key)) (out-Knot c.args.value.now).next.items)) no_value _ _ _ no_part_planned c.in-Err-serialize_vec_shared_knot.ensures.refused)))))
+serialize_knot-returns-in-Err-serialize_vec_shared_knot-clause-refused g t c = (refused_as (knot_has_keys c.args.value.now) (knot_means c.args.value.now) (record_refused knot_definitions knot_shape knot_part_definitions knot_parts knot_has_parts _ _ _ _ _ (later_refused no_definition (both knot_definitions no_definition) (leaf (number_kind unsigned w32)) (part (vec (shared rc_flavor (one knot_shape))) no_part) [] ((each_keys (λ y. (rc_keys y.key (one knot_shape) 0 (knot_meaning y.value.value) (knot_keys y.value.value))) (out-Knot c.args.value.now).next.items) ++ []) (number (pos (out-Knot c.args.value.now).id)) (value (list (each_meaning (λ y. (shared_value y.key)) (out-Knot c.args.value.now).next.items)) no_value) _ _ _ _ _ c.in-Ok.ensures.serialized c.serialize_part.ensures.goes_on c.serialize_vec_shared_knot.ensures.goes_on (first_refused knot_definitions no_definition (vec (shared rc_flavor (one knot_shape))) no_part (each_keys (λ y. (rc_keys y.key (one knot_shape) 0 (knot_meaning y.value.value) (knot_keys y.value.value))) (out-Knot c.args.value.now).next.items) [] (list (each_meaning (λ y. (shared_value y.key)) (out-Knot c.args.value.now).next.items)) no_value _ _ _ no_part_planned c.in-Err-serialize_vec_shared_knot.ensures.refused))))
 
 pub serialize_knot-returns-in-Err-serialize_vec_shared_knot-clause-goes_on : goal.serialize_knot-returns-in-Err-serialize_vec_shared_knot-clause-goes_on
-serialize_knot-returns-in-Err-serialize_vec_shared_knot-clause-goes_on g t c = (goes_both _ _ _ (goes_both _ _ _ c.serialize_part.ensures.goes_on c.serialize_weak_shared_knot.ensures.goes_on) c.serialize_vec_shared_knot.ensures.goes_on)
+serialize_knot-returns-in-Err-serialize_vec_shared_knot-clause-goes_on g t c = (goes_both _ _ _ c.serialize_part.ensures.goes_on c.serialize_vec_shared_knot.ensures.goes_on)
 
 pub serialize_knot-returns-clause-serialized : goal.serialize_knot-returns-clause-serialized
-serialize_knot-returns-clause-serialized g t c = (written_as (knot_has_keys c.args.value.now) (knot_means c.args.value.now) refl (serialized_record knot_definitions knot_shape knot_part_definitions knot_parts knot_has_parts _ _ _ _ _ (serialized_part no_definition (both knot_definitions (both knot_definitions no_definition)) (leaf (number_kind unsigned w32)) (part (weak rc_flavor (one knot_shape)) (part (vec (shared rc_flavor (one knot_shape))) no_part)) [] ((option_keys (λ s. (rc_keys s.key (one knot_shape) 0 (knot_meaning s.value.value) (knot_keys s.value.value))) (out-Knot c.args.value.now).from.value) ++ ((each_keys (λ y. (rc_keys y.key (one knot_shape) 0 (knot_meaning y.value.value) (knot_keys y.value.value))) (out-Knot c.args.value.now).next.items) ++ [])) (number (pos (out-Knot c.args.value.now).id)) (value (weak_value (λ s. (shared_value s.key)) (out-Knot c.args.value.now).from.value) (value (list (each_meaning (λ y. (shared_value y.key)) (out-Knot c.args.value.now).next.items)) no_value)) _ _ _ _ _ c.in-Ok.ensures.serialized (serialized_part knot_definitions (both knot_definitions no_definition) (weak rc_flavor (one knot_shape)) (part (vec (shared rc_flavor (one knot_shape))) no_part) (option_keys (λ s. (rc_keys s.key (one knot_shape) 0 (knot_meaning s.value.value) (knot_keys s.value.value))) (out-Knot c.args.value.now).from.value) ((each_keys (λ y. (rc_keys y.key (one knot_shape) 0 (knot_meaning y.value.value) (knot_keys y.value.value))) (out-Knot c.args.value.now).next.items) ++ []) (weak_value (λ s. (shared_value s.key)) (out-Knot c.args.value.now).from.value) (value (list (each_meaning (λ y. (shared_value y.key)) (out-Knot c.args.value.now).next.items)) no_value) _ _ _ _ _ c.in-Ok-serialize_weak_shared_knot.ensures.serialized (serialized_part knot_definitions no_definition (vec (shared rc_flavor (one knot_shape))) no_part (each_keys (λ y. (rc_keys y.key (one knot_shape) 0 (knot_meaning y.value.value) (knot_keys y.value.value))) (out-Knot c.args.value.now).next.items) [] (list (each_meaning (λ y. (shared_value y.key)) (out-Knot c.args.value.now).next.items)) no_value _ _ _ _ _ c.in-Ok-serialize_vec_shared_knot.ensures.serialized (serialized_no_part no_definition _))))))
+serialize_knot-returns-clause-serialized g t c = (written_as (knot_has_keys c.args.value.now) (knot_means c.args.value.now) refl (serialized_record knot_definitions knot_shape knot_part_definitions knot_parts knot_has_parts _ _ _ _ _ (serialized_part no_definition (both knot_definitions no_definition) (leaf (number_kind unsigned w32)) (part (vec (shared rc_flavor (one knot_shape))) no_part) [] ((each_keys (λ y. (rc_keys y.key (one knot_shape) 0 (knot_meaning y.value.value) (knot_keys y.value.value))) (out-Knot c.args.value.now).next.items) ++ []) (number (pos (out-Knot c.args.value.now).id)) (value (list (each_meaning (λ y. (shared_value y.key)) (out-Knot c.args.value.now).next.items)) no_value) _ _ _ _ _ c.in-Ok.ensures.serialized (serialized_part knot_definitions no_definition (vec (shared rc_flavor (one knot_shape))) no_part (each_keys (λ y. (rc_keys y.key (one knot_shape) 0 (knot_meaning y.value.value) (knot_keys y.value.value))) (out-Knot c.args.value.now).next.items) [] (list (each_meaning (λ y. (shared_value y.key)) (out-Knot c.args.value.now).next.items)) no_value _ _ _ _ _ c.in-Ok-serialize_vec_shared_knot.ensures.serialized (serialized_no_part no_definition _)))))
 
 pub serialize_knot-returns-clause-goes_on : goal.serialize_knot-returns-clause-goes_on
-serialize_knot-returns-clause-goes_on g t c = (goes_both _ _ _ (goes_both _ _ _ c.serialize_part.ensures.goes_on c.serialize_weak_shared_knot.ensures.goes_on) c.serialize_vec_shared_knot.ensures.goes_on)
+serialize_knot-returns-clause-goes_on g t c = (goes_both _ _ _ c.serialize_part.ensures.goes_on c.serialize_vec_shared_knot.ensures.goes_on)

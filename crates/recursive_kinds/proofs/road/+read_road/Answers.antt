@@ -1,5 +1,5 @@
 -- Written by tools/derive: change the declaration, and run it again.
-use Rattle.archive_core.proofs.Causes.{err_by, err_from}
+use Rattle.archive_core.proofs.Causes.{err_from}
 use Rattle.archive_core.proofs.ReadChoices.{variant_read_back, variant_refuses}
 use Rattle.archive_core.proofs.ReadRecords.{first_refuses, later_refuses}
 use Rattle.archive_core.proofs.ReadVariants.{case_read_back, case_refuses, empty_case_read_back}
@@ -20,17 +20,17 @@ use Rattle.std.specs.Int.{w8}
 use Rattle.std.specs.Prelude.{[], ◌++◌, refl, pos, length}
 use Rattle.recursive_kinds.proofs.road.+read_road.Goals as goal
 
-pub read_shared_road-returns-in_err-value-in-None-clause-refused : goal.read_shared_road-returns-in_err-value-in-None-clause-refused
-read_shared_road-returns-in_err-value-in-None-clause-refused g t c = err_by c.from_residual-in_err-value-in-None.result c.in_err-value-in-None.field-0.0 _ c.from_residual-in_err-value-in-None.ensures.1 (unread_since road_definitions c.args.part.bytes.now c.args.part.pos c.args.part.len rc_flavor (one road_shape) g.D.Entries.keeps _ _ _ c.requires (rw c.in-None.is at c.in_ok-value.ensures.begun) (rw (c.part_behind-behind.ensures.buffer, c.part_behind-behind.ensures.position, c.part_behind-behind.ensures.length) at c.in_err-value-in-None.ensures.refused))
+pub read_shared_road-returns-in-Err-read_road-clause-refused : goal.read_shared_road-returns-in-Err-read_road-clause-refused
+read_shared_road-returns-in-Err-read_road-clause-refused g t c = unread_since road_definitions c.args.part.bytes.now c.args.part.pos c.args.part.len rc_flavor (one road_shape) g.D.Entries.keeps _ _ _ c.requires (rw c.in-None.is at c.in-Ok.ensures.begun) (rw (c.part_behind-behind.ensures.buffer, c.part_behind-behind.ensures.position, c.part_behind-behind.ensures.length) at c.in-Err-read_road.ensures.refused)
 
 pub read_shared_road-returns-in-Some-clause-read : goal.read_shared_road-returns-in-Some-clause-read
-read_shared_road-returns-in-Some-clause-read g t c = rw c.in-Some.is at c.in_ok-value.ensures.known
+read_shared_road-returns-in-Some-clause-read g t c = rw c.in-Some.is at c.in-Ok.ensures.known
 
-pub read_shared_road-returns-in_ok-value-in-None-clause-read : goal.read_shared_road-returns-in_ok-value-in-None-clause-read
-read_shared_road-returns-in_ok-value-in-None-clause-read g t c = if_ok c.finish_reading.result (λ s h. h.since _ _ (rw c.in-None.is at c.in_ok-value.ensures.begun) (rw (c.part_behind-behind.ensures.buffer, c.part_behind-behind.ensures.position, c.part_behind-behind.ensures.length) at c.in_ok-value-in-None.ensures.read)) c.finish_reading.ensures.read
+pub read_shared_road-returns-in-Ok-read_road-clause-read : goal.read_shared_road-returns-in-Ok-read_road-clause-read
+read_shared_road-returns-in-Ok-read_road-clause-read g t c = if_ok c.finish_reading.result (λ s h. h.since _ _ (rw c.in-None.is at c.in-Ok.ensures.begun) (rw (c.part_behind-behind.ensures.buffer, c.part_behind-behind.ensures.position, c.part_behind-behind.ensures.length) at c.in-Ok-read_road.ensures.read)) c.finish_reading.ensures.read
 
-pub read_shared_road-returns-in_ok-value-in-None-clause-refused : goal.read_shared_road-returns-in_ok-value-in-None-clause-refused
-read_shared_road-returns-in_ok-value-in-None-clause-refused g t c = err_from c.finish_reading.result c.finish_reading.ensures.refused (λ e h. h.since _ _ (rw c.in-None.is at c.in_ok-value.ensures.begun) (rw (c.part_behind-behind.ensures.buffer, c.part_behind-behind.ensures.position, c.part_behind-behind.ensures.length) at c.in_ok-value-in-None.ensures.read))
+pub read_shared_road-returns-in-Ok-read_road-clause-refused : goal.read_shared_road-returns-in-Ok-read_road-clause-refused
+read_shared_road-returns-in-Ok-read_road-clause-refused g t c = err_from c.finish_reading.result c.finish_reading.ensures.refused (λ e h. h.since _ _ (rw c.in-None.is at c.in-Ok.ensures.begun) (rw (c.part_behind-behind.ensures.buffer, c.part_behind-behind.ensures.position, c.part_behind-behind.ensures.length) at c.in-Ok-read_road.ensures.read))
 
 pub read_option_shared_road-returns-in-None-clause-read : goal.read_option_shared_road-returns-in-None-clause-read
 read_option_shared_road-returns-in-None-clause-read g t c = empty_case_read_back road_definitions _ _ 0 refl c.args.part.bytes.now c.args.part.pos c.args.part.len (rw (c.at-view.ensures.buffer, c.at-view.ensures.position) at c.in-None.ensures.tag) _ _ refl

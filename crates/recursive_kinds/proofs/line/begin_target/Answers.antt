@@ -2,7 +2,7 @@
 use Rattle.std.proofs.Common.{inl}
 use Rattle.archive_core.proofs.Causes.{err_by}
 use Rattle.archive_core.proofs.PooledReading.{kept_again, kept_pending}
-use Rattle.recursive_kinds.proofs.knot.begin_target.Goals as goal
+use Rattle.recursive_kinds.proofs.line.begin_target.Goals as goal
 
 pub returns-in_err-start_pooling-clause-refused : goal.returns-in_err-start_pooling-clause-refused
 returns-in_err-start_pooling-clause-refused g c = err_by c.from_residual.result c.in_err-start_pooling.field-0.0 _ c.from_residual.ensures.1 (λ bytes n. inl c.in_err-start_pooling.ensures.refused)

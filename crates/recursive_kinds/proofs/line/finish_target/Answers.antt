@@ -4,7 +4,7 @@ use Rattle.archive_core.proofs.PooledReading.{kept_new}
 use Rattle.archive_core.proofs.recursive.PositionsBegun.{finish_refused}
 use Rattle.archive_core.specs.Error.TheVariants.{OutOfMemory}
 use Rattle.archive_core.proofs.Causes.{err_by}
-use Rattle.recursive_kinds.proofs.knot.finish_target.Goals as goal
+use Rattle.recursive_kinds.proofs.line.finish_target.Goals as goal
 
 pub returns-in_err-shared-clause-refused : goal.returns-in_err-shared-clause-refused
 returns-in_err-shared-clause-refused g c = err_by c.from_residual.result c.in_err-shared.field-0.0 _ c.from_residual.ensures.1 (λ old started bytes n a h. c.in_err-shared.ensures.refused)
