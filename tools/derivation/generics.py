@@ -1,6 +1,6 @@
 """The impls of a struct with type parameters, or that holds a recursive type: a tuple whose fields have names."""
 
-from .common import doc_lines, in_turn, infix, resolve_head
+from .common import doc_lines, in_turn, resolve_head
 from .layout import Generic, Group, flat, implementation, literal, pair, signature, statement
 
 

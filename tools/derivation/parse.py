@@ -4,7 +4,7 @@ Nothing is looked up here. What a declaration has that no archive can is kept as
 """
 
 from dataclasses import dataclass, field
-from typing import Dict, List, Optional, Set, Tuple
+from typing import Dict, List, Set, Tuple
 
 from .model import Declaration, Field, Parameter, Refused, Type, Variant
 from .tokens import DOC, END, INNER_DOC, LIFETIME, NOTE, NUMBER, SIGN, TEXT, WORD, Token, Tokens, tokens

@@ -6,7 +6,7 @@ type with their number, `UnitVariants<250, ()>`. Each arm with a call of the lib
 
 from . import variant_blocks
 from .formats import snake
-from .layout import Generic, Group, flat, lay, literal, statement
+from .layout import Generic, Group, flat, lay, statement
 
 # From so many on.
 FROM = 8

@@ -1,6 +1,7 @@
 """The proofs of an enum that goes by loops: what is written and read up to its boxes."""
 
-from . import proofs
+from . import proofs, write_proofs, read_proofs
+from ..common import numbered
 from .chains import opens
 from .reads import Reads
 
@@ -31,14 +32,14 @@ def whole_written(it, case):
     """A variant that has no box."""
     answers = proofs.Answers(it.family, f"serialize_{case.n}")
     values = [f"c.args.{name}.now" for name in case.names]
-    proofs.parts_written(it, case, answers, "", values, lambda lemma, proof: proof)
+    write_proofs.parts_written(it, case, answers, "", values, lambda lemma, proof: proof)
     return answers.files()
 
 
 def up_to_box(it, case, values, written, goes, same):
     """What is written up to the box: its four fields, each of its arguments."""
     parts = proofs.Parts(it, case, values)
-    whole = proofs.whole_of(it, case)
+    whole = write_proofs.whole_of(it, case)
     last = case.count - 1
     belongs = "(tt, tt)"
     for one in reversed(same):
@@ -66,13 +67,13 @@ def front_written(it, case):
     answers = proofs.Answers(it.family, f"serialize_{case.n}")
     values = [f"c.args.{name}.now" for name in case.names]
     words = ["serialize_part"] * (case.count - 1)
-    calls, oks, errs = proofs.numbered(words), proofs.matched("in-Ok", words), proofs.matched("in-Err", words)
+    calls, oks, errs = numbered(words), write_proofs.matched("in-Ok", words), write_proofs.matched("in-Err", words)
     written = [f"c.{ok}.ensures.serialized" for ok in oks]
     goes = [f"c.{call}.ensures.goes_on" for call in calls]
     parts = proofs.Parts(it, case, values)
     for i, err in enumerate(errs):
         refused = parts.refused(i, written, goes, f"c.{err}.ensures.refused")
-        answers.answer("", f"returns-{err}-clause-refused", f"variant_refused {proofs.whole_of(it, case)} _ _ _ _ _ {refused}")
+        answers.answer("", f"returns-{err}-clause-refused", f"variant_refused {write_proofs.whole_of(it, case)} _ _ _ _ _ {refused}")
         if i:
             answers.answer("", f"returns-{err}-clause-goes_on", proofs.all_goes(goes[:i + 1]))
     joined = [proofs.all_goes(goes)] if goes else []
@@ -91,7 +92,7 @@ def bound(case):
 def rests(it):
     """What a value's box holds."""
     answers = answers_of(it, "ChainSource", "rest")
-    behind = iter(proofs.numbered(["deref"] * sum(map(opens, it.cases))))
+    behind = iter(numbered(["deref"] * sum(map(opens, it.cases))))
     for case in it.cases:
         names = [f"_{name}" for name in case.names[:-1]] + [case.names[-1] if opens(case) else f"_{case.names[-1]}"] if case.count else []
         values = "".join(f" c.in-{case.name}.{name}" for name in names)
@@ -105,7 +106,7 @@ def heads_written(it):
     """What is written up to the box, by the variant."""
     answers = answers_of(it, "ChainSource", "serialize_head")
     words = [f"serialize_{case.n}" for case in it.cases if calls(case)]
-    oks, errs = iter(proofs.matched("in-Ok", words)), iter(proofs.matched("in-Err", words))
+    oks, errs = iter(write_proofs.matched("in-Ok", words)), iter(write_proofs.matched("in-Err", words))
     for case in it.cases:
         values = bound(case) if calls(case) else [f"c.in-{case.name}._{name}" for name in case.names]
         opened = "".join(f" {value}" for value in values)
@@ -113,7 +114,7 @@ def heads_written(it):
         laws = f"({case.n}_has_keys{opened}) ({case.n}_means{opened})"
         opening = f"({case.n}_opens{opened})" if opened else f"{case.n}_opens"
         if not case.count:
-            nothing = f"(serialized_variant {proofs.whole_of(it, case)} _ _ _ _ _ (serialized_no_part no_definition _))"
+            nothing = f"(serialized_variant {write_proofs.whole_of(it, case)} _ _ _ _ _ (serialized_no_part no_definition _))"
             answers.answer("", f"returns-in-{case.name}-clause-serialized", f"rw {is_} (written_as {case.n}_has_keys {case.n}_means (rw {opening} refl) {nothing}, rw {opening} tt)")
             continue
         if not calls(case):
@@ -165,7 +166,7 @@ def closed(it):
 
 def whole_read(it, case):
     answers = proofs.Answers(it.family, f"read_{case.n}")
-    proofs.parts_read(it, case, answers, "")
+    read_proofs.parts_read(it, case, answers, "")
     return answers.files()
 
 
@@ -184,10 +185,10 @@ def front_read(it, case):
     viewed = f"({told} {at}.ensures.viewed)"
     box = f"(box_read {here} (one {X}) _ _ _ _ {viewed} h)"
     unread = f"(box_unread {here} (one {X}) _ e {viewed} r)"
-    lets = proofs.signed_values(zip(case.types, case.names, reads.values))
+    lets = read_proofs.signed_values(zip(case.types, case.names, reads.values))
     body = (
         f"rw {at}.ensures.position (record {{ viewed = {viewed}; inside = omega arith;"
-        f" done = λ new m ks h. variant_read_back {proofs.whole_of(it, case)} _ _ _ c.requires.tag _ _ _ _ {parts_read(it, case, reads, box)};"
+        f" done = λ new m ks h. variant_read_back {write_proofs.whole_of(it, case)} _ _ _ c.requires.tag _ _ _ _ {parts_read(it, case, reads, box)};"
         f" broken = λ e r. {parts_refused(it, case, reads, last, unread)} }})"
     )
     answers.answer("", "returns-clause-read", f"({lets}({body}))" if lets else body)
@@ -219,7 +220,7 @@ def parts_refused(it, case, reads, i, refusal):
         its = refusal if i == case.count - 1 else f"({told_of(at)}{refusal})"
         return f"(first_refuses {head} {its})"
 
-    return f"variant_refuses {proofs.whole_of(it, case)} _ _ _ c.requires.tag _ _ {go(0)}"
+    return f"variant_refuses {write_proofs.whole_of(it, case)} _ _ _ c.requires.tag _ _ {go(0)}"
 
 
 def parts_read(it, case, reads, box):

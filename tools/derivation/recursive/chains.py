@@ -1,8 +1,8 @@
 """The module of a recursive enum whose boxes of itself come last, as a list: it is checked, written, read back and dropped by loops."""
 
-from . import code
+from . import readers, writers, resolvers
 from ..common import chain, infix
-from ..layout import Generic, Group, flat, literal, pair, signature, statement
+from ..layout import Generic, Group, flat, pair, signature, statement
 from ..model import Refused
 from .refusals import MOST_BY_NAME
 
@@ -101,7 +101,7 @@ def drop(it):
     for case in it.cases:
         names = ["_" for _ in case.names[:-1]] + ["rest"] if opens(case) else ["_" for _ in case.names]
         body = "self = Box::into_inner(rest)" if opens(case) else "return"
-        arms += f"                {flat(code.pattern(it, case, names))} => {body},\n"
+        arms += f"                {flat(resolvers.pattern(it, case, names))} => {body},\n"
     return f"""/// By a loop, so that a long list takes no machine stack.
 impl Drop for {it.name} {{
     fn drop(mut self) {{
@@ -119,7 +119,7 @@ impl Drop for {it.name} {{
 
 def kept_of(it, case):
     """What is kept of the parts before a box."""
-    return pair([code.kept(it, type) for type in case.types[:-1]])
+    return pair([resolvers.kept(it, type) for type in case.types[:-1]])
 
 
 def variants_of(it, said, of):
@@ -143,7 +143,7 @@ def writing(it):
         if case.count > 1 and opens(case):
             out.append(head_writing(it, case))
         elif case.count and not opens(case):
-            out.append(code.case_writing(it, case))
+            out.append(writers.case_writing(it, case))
     return "\n".join(out + [source(it), serialize(it)])
 
 
@@ -160,7 +160,7 @@ def head_writing(it, case):
     D, X, states = f"{it.n}_definitions", f"{it.n}_shape", "(S.state serializer.old) (S.state serializer.new)"
     arguments = [f"{name}: &{rust}" for name, rust in zip(names, case.rust)] + ["serializer: &mut S"]
     head = signature(f"fn serialize_{case.n}", [it.writer], arguments, Group("Result<", [kept_of(it, case), "Error"], ">"))
-    body = code.parts_written(it, front(case), names[:-1])
+    body = writers.parts_written(it, front(case), names[:-1])
     return f"""// Writes what the parts of `{case.name}` before its box own, in order.
 #[inline(always)]
 {head}
@@ -196,11 +196,11 @@ def source(it):
     for case in it.cases:
         resolver = f"{it.resolver}::{case.name}"
         if not opens(case):
-            rests += f"            {flat(code.pattern(it, case, ['_' + name for name in case.names]))} => None,\n"
+            rests += f"            {flat(resolvers.pattern(it, case, ['_' + name for name in case.names]))} => None,\n"
             heads += whole_head(it, case, resolver)
             continue
         names = [f"_{name}" for name in case.names[:-1]] + [case.names[-1]]
-        rests += f"            {flat(code.pattern(it, case, names))} => Some(&**{case.names[-1]}),\n"
+        rests += f"            {flat(resolvers.pattern(it, case, names))} => Some(&**{case.names[-1]}),\n"
         heads += open_head(it, case)
         closes += close(it, case, resolver)
     return f"""impl<{it.writer}> ChainSource<S> for {it.name} {{
@@ -238,7 +238,7 @@ def source(it):
 
 def whole_head(it, case, resolver):
     """The arm of a variant that has no box."""
-    pattern = flat(code.pattern(it, case, case.names))
+    pattern = flat(resolvers.pattern(it, case, case.names))
     if not case.count:
         return f"            {pattern} => Ok(WrittenHead::Whole({resolver})),\n"
     return f"""            {pattern} => match serialize_{case.n}({', '.join(case.names)}, serializer) {{
@@ -251,8 +251,8 @@ def whole_head(it, case, resolver):
 def open_head(it, case):
     """The arm of a variant with a box."""
     if case.count == 1:
-        return f"            {flat(code.pattern(it, case, ['_' + name for name in case.names]))} => Ok(WrittenHead::Open({it.name}Kept::{case.name})),\n"
-    return f"""            {flat(code.pattern(it, case, case.names))} => match serialize_{case.n}({', '.join(case.names)}, serializer) {{
+        return f"            {flat(resolvers.pattern(it, case, ['_' + name for name in case.names]))} => Ok(WrittenHead::Open({it.name}Kept::{case.name})),\n"
+    return f"""            {flat(resolvers.pattern(it, case, case.names))} => match serialize_{case.n}({', '.join(case.names)}, serializer) {{
                 Ok(kept) => Ok(WrittenHead::Open({it.name}Kept::{case.name}(kept))),
                 Err(error) => Err(error),
             }},
@@ -285,9 +285,9 @@ def fronts(it):
 
 
 def reading(it):
-    out = [fronts(it), code.made_reading(it)]
+    out = [fronts(it), readers.made_reading(it)]
     for case in it.cases:
-        out.append(head_reading(it, case) if opens(case) else code.case_reading(it, case))
+        out.append(head_reading(it, case) if opens(case) else readers.case_reading(it, case))
     return "\n".join(piece for piece in out + [back(it)] if piece)
 
 
@@ -304,10 +304,10 @@ def head_reading(it, case):
     i, X = case.count - 1, case.archived[-1]
     where = Generic("part_of_variant", [it.archived, X], ["part", str(case.tag), str(i), str(case.offsets[i])])
     values = f"({', '.join(case.names[:-1])})" if case.count > 1 else ""
-    body = code.parts_read(it, front(case)) + statement(4, f"let p{i} = ", where, ";")
+    body = readers.parts_read(it, front(case)) + statement(4, f"let p{i} = ", where, ";")
     body += f"    Ok(ReadHead::Open({it.name}Front::{case.name}{values}, p{i}.pos))\n"
     T = f"ReadHead<{it.name}, {it.name}Front>"
-    text = code.reader(it, case.n, T, viewed + head_contract(it), body, f"Reads the parts of `{case.name}` before its box back.", False)
+    text = readers.reader(it, case.n, T, viewed + head_contract(it), body, f"Reads the parts of `{case.name}` before its box back.", False)
     return text if case.count > 1 else text.replace("(alloc: Global", "(_alloc: Global").replace("deserializer", "_deserializer")
 
 
@@ -319,7 +319,7 @@ def back(it):
         if opens(case):
             heads += f"            {tag} => read_{case.n}(alloc, part, deserializer),\n"
             values = f"({', '.join(case.names[:-1])})" if case.count > 1 else ""
-            around += f"            {it.name}Front::{case.name}{values} => {flat(code.pattern(it, case, case.names[:-1] + ['rest']))},\n"
+            around += f"            {it.name}Front::{case.name}{values} => {flat(resolvers.pattern(it, case, case.names[:-1] + ['rest']))},\n"
             continue
         heads += f"""            {tag} => match read_{case.n}(alloc, part, deserializer) {{
                 Ok(value) => Ok(ReadHead::Whole(value)),

@@ -5,7 +5,7 @@ The calls of the library hand on what others made, or that memory was refused: s
 
 from ..layout import Generic, Group, call, signature, statement
 from .maps import archived_key
-from .terms import is_map
+from .term_words import is_map
 
 # By its path: with a `use` of it, the toolchain finds no clause of the module unless `crates.txt` names `archive_check`, whose type it is.
 EXPR = "archive_core::shape::Expr"

@@ -1,11 +1,12 @@
 """Types that hold themselves behind boxes and vectors: what is known of such a declaration, and the files that are written for it."""
 
-from . import chains, code, proofs, specs
+from . import chains, code, proofs, specs, writers
 from ..formats import Formats, layout_of, snake
 from ..model import Field, Type
 from .refusals import MOST_BY_NAME
 from .slices import is_shared_slice
-from .terms import Terms, element, has_elements, is_map
+from .terms import Terms
+from .term_words import element, has_elements, is_map
 
 WRITTEN = "Written by tools/derive: change the declaration, and run it again."
 
@@ -153,7 +154,7 @@ class Recursive:
         """Whether the elements of a vector are the first that lead to their type of the family by a shared pointer or by none: it is written under a key by a
         function that stands with them."""
         items = [run.args[0] for it in self.family.members for run in it.owners if has_elements(run) and it.is_written(run) and it.is_first_run(run)]
-        leads_to = code.member_behind
+        leads_to = writers.member_behind
         first = next((other for other in items if self.terms.is_nullable(other) and self.terms.is_nullable(item) and leads_to(self, other).own is leads_to(self, item).own), None)
         return item is first
 

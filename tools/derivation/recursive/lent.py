@@ -6,7 +6,7 @@ variant a function of the module does, which is passed no impl of the enum: with
 
 from ..layout import Generic, literal, statement
 from ..long import lent
-from .terms import brought
+from .term_words import brought
 
 RESOLVED = "resolve_lent"
 # What the answers speak of.
@@ -33,7 +33,7 @@ def function(it):
 
 def text(it):
     """The structs of references, with the function that resolves a variant of an enum."""
-    from .code import hollows
+    from .resolvers import hollows
 
     f, out = it.formats, []
     for case in long_cases(it):

@@ -1,7 +1,7 @@
 """The answers on the functions that write and read back the sorted maps of recursive types."""
 
 from .maps import entries
-from .terms import element
+from .term_words import element
 
 LOOP = "loop-key"
 
@@ -13,7 +13,7 @@ def written(it, type, answers, steps):
 
 
 def entries_written(it, type, answers, steps_of):
-    from .proofs import functions_of, not_pushed
+    from .write_proofs import functions_of, not_pushed
 
     item, t = element(type), it.terms
     function = f"serialize_{entries(it, type)}"

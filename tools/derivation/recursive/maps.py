@@ -4,8 +4,8 @@ An entry is a tuple of its key and its value. What the entries own is written as
 pointer to it, by a call of the library, which lends the entries. They are read back as a vector of tuples, of which the library makes the map.
 """
 
-from ..layout import Generic, Group, flat, pair, statement
-from .terms import element
+from ..layout import Generic, flat, pair, statement
+from .term_words import element
 
 
 def bring(it):

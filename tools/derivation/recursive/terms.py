@@ -7,20 +7,11 @@ a value, which is a term itself:
 """
 
 from . import arrays
-from . import slices
 from . import weak
 from ..formats import snake
 from ..model import Type
 from .plain import Plain, inner_in, items_of, product
-
-
-def stem(name):
-    """What names of a type begin with: none of the library's that are brought in begin so."""
-    from .proofs import CITED
-
-    own = snake(name)
-    taken = any(it.startswith(f"{own}_") for names in [*PRELUDE.values(), *CITED.values()] for it in names.split())
-    return f"{own}_type" if taken else own
+from . import term_words
 
 
 class Terms:
@@ -28,7 +19,7 @@ class Terms:
 
     def __init__(self, declaration):
         self.declaration = declaration
-        self.n = stem(declaration.name)
+        self.n = term_words.stem(declaration.name)
         self.plain = Plain(declaration.path)
         self.plain.inner_known = None if declaration.holder else self.inner_known
         self.owns = self.plain.owns  # plain parts that `tools/derive` wrote
@@ -39,7 +30,7 @@ class Terms:
 
     def n_of(self, type):
         """What names of a type of the family begin with."""
-        return stem(type.own.name)
+        return term_words.stem(type.own.name)
 
     def word(self, type):
         """What functions of an owner, or of a part, are called by: `box_expr`."""
@@ -76,7 +67,7 @@ class Terms:
 
     def own(self, which):
         """What is said of values of each type of the family, by its name."""
-        return {it.name: f"{stem(it.name)}_{which}" for it in self.declaration.family}
+        return {it.name: f"{term_words.stem(it.name)}_{which}" for it in self.declaration.family}
 
     @property
     def shares(self):
@@ -125,7 +116,7 @@ class Terms:
             return type, x
         if type.name == "Box":
             return self.list_in(type.args[0], f"{x}.value", which)
-        return (type, items_of(type, x)) if is_run(type) or is_map(type) else None
+        return (type, items_of(type, x)) if term_words.is_run(type) or term_words.is_map(type) else None
 
     # ---- formats ----
 
@@ -136,7 +127,7 @@ class Terms:
             return self.plain.shape(type)
         if type.name == "tuple":
             return f"{self.word(type)}_shape"
-        if is_map(type):
+        if term_words.is_map(type):
             return f"(sorted_map {self.plain.key(type)} {self.shape(type.args[1])})"
         item = self.shape(type.args[0])
         shapes = {"Box": f"(boxed (one {item}))", "BoxSlice": f"(boxed (run {item}))", "Option": f"(option_shape {item})", "Vec": f"(vec {item})"}
@@ -146,15 +137,15 @@ class Terms:
     def definitions(self, type):
         if not self.leads_back(type):
             return self.plain.definitions(type)
-        if type.name == "tuple" or is_map(type):
-            return f"{self.word(element(type) if is_map(type) else type)}_definitions"
+        if type.name == "tuple" or term_words.is_map(type):
+            return f"{self.word(term_words.element(type) if term_words.is_map(type) else type)}_definitions"
         return f"{self.n}_definitions" if self.is_member(type) else self.definitions(type.args[0])
 
     def known(self, type):
         """A proof that its definitions are known where the type's own are."""
         if not self.leads_back(type):
             return self.plain.known(type)
-        if type.name == "tuple" or is_map(type):
+        if type.name == "tuple" or term_words.is_map(type):
             return product([self.known(arg) for arg in type.args], "(knows_none s k.laid_out)", "knows_both s _ _")
         return "k" if self.is_member(type) else self.known(type.args[0])
 
@@ -163,18 +154,18 @@ class Terms:
     def function(self, which, type, m):
         """What a value means, or its keys, as a function."""
         if self.is_member(type):
-            its = said(m, type)
+            its = term_words.said(m, type)
             return f"(λ v. v{its})" if its.startswith(".") else its
         return f"(λ y. {getattr(self, which)(type, 'y', m)})"
 
     def meaning(self, type, x, m):
         if self.is_member(type):
-            return applied(m, type, x)
+            return term_words.applied(m, type, x)
         if not self.leads_back(type):
             return self.plain.meaning(type, x)
         if type.name == "tuple":
-            return f"(product {self.parts_meaning(type.args, places(type, x), m)})"
-        item = element(type)
+            return f"(product {self.parts_meaning(type.args, term_words.places(type, x), m)})"
+        item = term_words.element(type)
         if type.name in ("Shared", "SharedSlice"):
             return f"(shared_value {x}.key)"
         if type.name == "WeakShared":
@@ -185,22 +176,22 @@ class Terms:
             return f"(option_meaning {self.function('meaning', item, m)} {x})"
         if arrays.is_array(type):
             return f"(array_meaning {type.length} {self.function('meaning', item, m)} {x})"
-        return around(type, f"(list (each_meaning {self.function('meaning', item, m)} {items_of(type, x)}))")
+        return term_words.around(type, f"(list (each_meaning {self.function('meaning', item, m)} {items_of(type, x)}))")
 
     def keys(self, type, x, k):
         if self.is_member(type):
-            return applied(k, type, x)
+            return term_words.applied(k, type, x)
         if not self.leads_back(type):
             return self.plain.keys(type, x)
         if type.name == "tuple":
-            return self.parts_keys(type.args, places(type, x), k)
-        item = element(type)
+            return self.parts_keys(type.args, term_words.places(type, x), k)
+        item = term_words.element(type)
         if type.name == "Shared":
             y = f"{x}.value.value"
-            return f"(rc_keys {x}.key (one {self.shape(item)}) 0 {self.meaning(item, y, meant(k))} {self.keys(item, y, k)})"
+            return f"(rc_keys {x}.key (one {self.shape(item)}) 0 {self.meaning(item, y, term_words.meant(k))} {self.keys(item, y, k)})"
         if type.name == "SharedSlice":
             items = items_of(type, x)
-            meanings, keys = (f"(each_{which} {self.function(which, item, its)} {items})" for which, its in (("meaning", meant(k)), ("keys", k)))
+            meanings, keys = (f"(each_{which} {self.function(which, item, its)} {items})" for which, its in (("meaning", term_words.meant(k)), ("keys", k)))
             return self.slice_keys(type, x, items, meanings, keys)
         if type.name == "WeakShared":
             return self.of_weak("keys", type, x, k)
@@ -232,8 +223,8 @@ class Terms:
         if not self.leads_back(type):
             return self.plain.flat(type, x, r)
         if type.name == "tuple":
-            return f"(product {self.parts_flat(type.args, places(type, x), r)})"
-        if is_map(type):
+            return f"(product {self.parts_flat(type.args, term_words.places(type, x), r)})"
+        if term_words.is_map(type):
             return f"(map_flat {self.plain.key(type)} {self.shape(type.args[1])} (btree_map_len {x}) {r})"
         item = self.shape(type.args[0])
         if type.name == "Shared":
@@ -250,7 +241,7 @@ class Terms:
             return f"(option_at (one {self.shape(type.args[0].args[0])}) {r})"
         if arrays.is_array(type):
             return f"(list (each_meaning {self.kept(type.args[0])} {r}.items))"
-        return around(type, f"(hole (to_pointee {r} (run {item}) (length {items_of(type, x)})))")
+        return term_words.around(type, f"(hole (to_pointee {r} (run {item}) (length {items_of(type, x)})))")
 
     def belongs(self, type, x, r):
         if self.is_member(type):
@@ -258,10 +249,10 @@ class Terms:
         if not self.leads_back(type):
             return self.plain.belongs(type, x, r)
         if type.name == "tuple":
-            return self.parts_belong(type.args, places(type, x), r)
+            return self.parts_belong(type.args, term_words.places(type, x), r)
         if type.name in ("Box", "Option", "Shared", "WeakShared"):
             return "⊤"
-        if is_map(type):
+        if term_words.is_map(type):
             return f"(btree_map_len {x} ≤ 4294967295)"
         if arrays.is_array(type):
             return f"(length {r}.items ≡ {type.length})"
@@ -280,8 +271,8 @@ class Terms:
         if not self.leads_back(type):
             return self.plain.keyed(type, x)
         if type.name == "tuple":
-            return f"(record_keyed {self.parts_keyed(type.args, places(type, x))})"
-        item = element(type)
+            return f"(record_keyed {self.parts_keyed(type.args, term_words.places(type, x))})"
+        item = term_words.element(type)
         if type.name == "Shared":
             return f"(rc_keyed {x}.key (one {self.shape(item)}) 0 _ _ {self.keyed(item, f'{x}.value.value')})"
         if type.name == "WeakShared":
@@ -290,7 +281,7 @@ class Terms:
         if type.name == "Box":
             return f"(box_keyed _ _ {self.keyed(item, f'{x}.value')})"
         if type.name == "Option":
-            return "none_keyed" if x == "None" else f"(some_keyed _ _ {self.keyed(item, something(x))})"
+            return "none_keyed" if x == "None" else f"(some_keyed _ _ {self.keyed(item, term_words.something(x))})"
         items = items_of(type, x)
         if self.is_option(item):
             its = f"(held_options_keyed _ {self.said(item.args[0])} refl (λ e. {self.keyed(item, '(Some e)')}) {items})"
@@ -314,7 +305,7 @@ class Terms:
             return self.plain.planned(type, x)
         if type.name == "tuple":
             return f"(product_planned _ _ _ _ {self.row_planned(type, x, held)})"
-        item = element(type)
+        item = term_words.element(type)
         D, X = self.definitions(type), self.shape(item)
         if type.name == "Shared":
             return f"(rc_one_planned {D} {x}.key (one {X}) {X} refl _ _ {self.planned(item, f'{x}.value.value', held)})"
@@ -323,7 +314,7 @@ class Terms:
         if type.name == "Box":
             return f"(boxed_one_planned {D} (one {X}) {X} refl _ _ {self.planned(item, f'{x}.value', held)})"
         if type.name == "Option" and held:
-            return f"(none_planned {D} {X})" if x == "None" else f"(some_planned {D} {X} {self.held_pair(item, something(x))} {self.planned(item, something(x), held)})"
+            return f"(none_planned {D} {X})" if x == "None" else f"(some_planned {D} {X} {self.held_pair(item, term_words.something(x))} {self.planned(item, term_words.something(x), held)})"
         if type.name == "Option":
             k, m = (self.function(which, item, self.own(which)) for which in ("keys", "meaning"))
             return f"(option_planned {D} {X} {k} {m} (λ y. {self.planned(item, 'y', False)}) {x})"
@@ -341,7 +332,7 @@ class Terms:
         if arrays.is_array(type):
             return f"(array_planned {type.length} {D} {X} {self.said(item)} {self.plan(item)} {x})"
         owner = f"vec_planned {D} {X}" if type.name == "Vec" else f"box_planned {D} (run {X})"
-        if is_map(type):
+        if term_words.is_map(type):
             owner = f"map_planned {D} {self.plain.key(type)} {self.shape(type.args[1])}"
         if type.name == "SharedSlice":
             owner = f"rc_planned {D} {x}.key (run {X})"
@@ -368,12 +359,12 @@ class Terms:
 
     def held_two(self, type, x):
         item, y = type.args[0], f"{x}.value.value.0"
-        keys, meaning = (applied(self.own(which), item, y) for which in ("keys", "meaning"))
+        keys, meaning = (term_words.applied(self.own(which), item, y) for which in ("keys", "meaning"))
         return f"(rc_keys {x}.key (one {self.shape(item)}) 0 {meaning} {keys})", f"(shared_value {x}.key)"
 
     def row_planned(self, type, x, held):
         """A proof that there are plans of the parts of a tuple."""
-        values = places(type, x)
+        values = term_words.places(type, x)
         shown = [f"{y}.0" if held and self.is_member(arg) else y for arg, y in zip(type.args, values)]
         return self.parts_planned(type.args, values, shown, held)
 
@@ -404,7 +395,7 @@ class Terms:
         for i, (type, x) in reversed(list(enumerate(zip(types, values)))):
             its = self.meaning(type, x, m)
             if terms and i in terms:
-                its = listed(type, terms[i])
+                its = term_words.listed(type, terms[i])
             out = f"(value {its} {out})"
         return out
 
@@ -451,66 +442,6 @@ class Placed(str):
         its = super().__new__(cls, f"({', '.join(parts)})")
         its.parts = parts
         return its
-
-
-def places(type, x):
-    """The parts of a tuple."""
-    return x.parts if isinstance(x, Placed) else [f"{x}.{i}" for i in range(len(type.args))]
-
-
-def is_run(type):
-    """Whether it is a vector or a boxed slice: elements one after another, behind a pointer."""
-    return type.name in ("Vec", "BoxSlice")
-
-
-def is_map(type):
-    """Whether it is a sorted map."""
-    return type.name == "BTreeMap" and type.own is None
-
-
-def element(type):
-    """The type of what it holds: of a map that of its entries, which are tuples."""
-    return Type("tuple", type.args, type.line) if is_map(type) else type.args[0]
-
-
-def has_elements(type):
-    """Whether it is one of these, a shared slice, or an array."""
-    return is_run(type) or slices.is_shared_slice(type) or arrays.is_array(type)
-
-
-def around(type, term):
-    """What a vector or a map means, or what is read in its place, as that of a boxed slice where it is one."""
-    return f"(box {term})" if type.name == "BoxSlice" else term
-
-
-def listed(type, term):
-    """What a vector, a boxed slice, or a box of one means, by what its elements do."""
-    if arrays.is_array(type):
-        return term
-    return f"(box {listed(type.args[0], term)})" if type.name == "Box" else around(type, f"(list {term})")
-
-
-def said(m, type):
-    """What is said of values of a type of the family: the same of all, or by its name."""
-    return m if isinstance(m, str) else m[type.own.name]
-
-
-def applied(m, type, x):
-    """What is said of a value of a type of the family; a place of a pair is behind it."""
-    its = said(m, type)
-    return f"{x}{its}" if its.startswith(".") else f"({its} {x})"
-
-
-def meant(k):
-    """What values mean, where these are their keys."""
-    if isinstance(k, dict):
-        return {name: meant(its) for name, its in k.items()}
-    return ".0" if k == ".1" else f"m{k[1:]}" if k.startswith("k") and "_" not in k else k.replace("_keys", "_meaning")
-
-
-def something(x):
-    """What `(Some x)` holds."""
-    return x[len("(Some "):-1]
 
 
 PRELUDE = {
@@ -562,49 +493,3 @@ PRELUDE = {
     "archive_core.specs.Hollow": "option_at",
 }
 RENAMED = {"number_kind": ("archive_core.specs.Shape", "number")}
-
-
-def words(text):
-    """The words of a text of antt."""
-    out, word = set(), ""
-    for letter in text + " ":
-        if letter.isspace() or letter in "(){}.;,λ":
-            out.add(word)
-            word = ""
-        else:
-            word += letter
-    return out
-
-
-def brought(body, more=()):
-    """The lines that bring in what a text names; `more` are names with their modules."""
-    used = words(body)
-    lines = []
-    known = dict(PRELUDE)
-    for path, names in more:
-        known[path] = " ".join(dict.fromkeys(f"{known.get(path, '')} {names}".split()))
-    for path, names in sorted(known.items()):
-        here = [n for n in names.split() if (n.replace("◌", "") if "◌" in n else n) in used or n == "[]" and "[]" in body]
-        here += [f"{name} as {alias}" for alias, (where, name) in RENAMED.items() if where == path and alias in used]
-        if here:
-            lines.append(f"use Rattle.{path}.{{{', '.join(here)}}}\n")
-    return "".join(lines)
-
-
-def brought_owns(terms, body):
-    """The lines that bring in what is said of plain parts that `tools/derive` wrote."""
-    lines = []
-    for name, own in sorted(terms.owns.items()):
-        path = ".".join(("Rattle", own.crate, "specs", "contracts") + tuple(own.module))
-        n = snake(name)
-        if own.part_by_part:
-            described = [f"{stem(name)}_{it} as {it}_of_{n}" for it in ("shape", "definitions", "has_layout", "no_others") if f"{it}_of_{n}" in words(body)]
-            lines += [f"use Rattle.{own.crate}.specs.{own.family[0].name}Shape.{{{', '.join(described)}}}\n"] if described else []
-        if f"format_of_{n}" in body:
-            lines.append(f"use {path}.{own.archived}Portable.TheImpl as format_of_{n}\n")
-        if f"source_of_{n}" in body:
-            lines.append(f"use {path}.{name}Archive.TheImpl as source_of_{n}\n")
-        laws = [f"{law}-law as {law}_of_{n}" for law in ("keyed", "planned") if f"{law}_of_{n}" in body]
-        if laws:
-            lines.append(f"use {path}.{name}Archive.TheImpl.Laws.{{{', '.join(laws)}}}\n")
-    return "".join(lines)

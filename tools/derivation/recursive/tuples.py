@@ -4,8 +4,7 @@ Their parts are written where the value's other parts are: of a function that is
 a hollow part in a tuple's place, which lends those of its parts that don't lead back.
 """
 
-from ..formats import snake
-from ..layout import Generic, flat, literal, statement
+from ..layout import Generic, literal, statement
 from .hollow import hollow_source
 
 
