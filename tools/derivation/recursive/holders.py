@@ -9,7 +9,7 @@ from typing import List
 from ..formats import ALIGNS, has_shared
 from ..model import Declaration, Field, Refused, Type
 from .plain import is_shaped
-from .refusals import MOST_BY_NAME, PLAIN, recursive_in
+from .refusals import MOST_BY_NAME, MOST_FLAT, PLAIN, recursive_in
 
 
 def tell(it: Declaration):
@@ -23,7 +23,13 @@ def groups(it: Declaration) -> List[List[Field]]:
 
 
 def fits(it: Declaration, fields: List[Field]) -> bool:
-    return len(fields) <= MOST_BY_NAME and all(is_part(it, field.type) for field in fields)
+    most = MOST_FLAT if it.kind == "struct" and all(is_flat(field.type) for field in fields) else MOST_BY_NAME
+    return len(fields) <= most and all(is_part(it, field.type) for field in fields)
+
+
+def is_flat(type: Type) -> bool:
+    """Whether a part is a number, a text or a recursive type itself."""
+    return not type.args and (type.own is None or type.own.recursive)
 
 
 def is_part(it: Declaration, type: Type) -> bool:
