@@ -67,11 +67,3 @@ besides_no_more first old new added now before put key value says =
       | inl said ↦ inl (before key value said)
       | inr same ↦ inr same
     ]
-
--- a key is added twice
-pub besides_twice : {V A : Type 0} (first old new : Slots V A) (added : ℕ) (now : V) → SlotsSayBesides first old added now → SlotsSayBesides old new added now → SlotsSayBesides first new added now
-besides_twice first old new added now before put key value says =
-    elim (put key value says) [
-      | inl said ↦ before key value said
-      | inr same ↦ inr same
-    ]

@@ -52,32 +52,15 @@ impl<A: Allocator + Clone> KnownKeys<A> {
         ensures state { result ≡ get nat_eq self.old.states key }
         ensures same { self.new.states ≡ self.old.states }
     {
-        if self.repeats.is_empty() {
-            return self.search(key);
-        }
         match self.repeats.get(key) {
             Some(position) => Some(Some(*position)),
-            None => self.search_besides(key),
+            None => self.search(key),
         }
     }
 
-    // The same, by the map, where there is no slot.
+    // The same, by the map.
     #[inline(always)]
     fn search(&mut self, key: u64) -> Option<Option<usize>>
-        ensures state { result ≡ get nat_eq self.old.states key }
-        ensures same { self.new.states ≡ self.old.states }
-    {
-        let state = self.states.get(&key).copied();
-        if let Some(Some(position)) = state {
-            self.repeats.count_found(key, position, self.states.len());
-        }
-        state
-    }
-
-    // The same, by the map, where no slot has the key. It stands apart, since most pointers lead to
-    // a key that a slot has.
-    #[inline(never)]
-    fn search_besides(&mut self, key: u64) -> Option<Option<usize>>
         ensures state { result ≡ get nat_eq self.old.states key }
         ensures same { self.new.states ≡ self.old.states }
     {

@@ -2,7 +2,7 @@
 //! enough to be worth it, so that keys which are found once or never cost no more than the map.
 
 ghost use Rattle.std.specs.Prelude.{IfSome};
-ghost use Rattle.archive_check.specs.Slots.{SlotsSay, SlotsSayNothing, SlotsSayBesides};
+ghost use Rattle.archive_check.specs.Slots.{SlotsSay, SlotsSayNothing, SlotsSayNoMore, SlotsSayBesides};
 
 use archive_check::slots::Slots;
 use std::alloc::{Allocator, Global};
@@ -10,15 +10,12 @@ use std::alloc::{Allocator, Global};
 // With fewer finds no slots are made.
 const FEW: usize = 14;
 
-// Slots are worth it where each key is found so often.
-const ENOUGH: usize = 4;
-
-/// Slots that are made once finds in a map are four times as many as its keys, and once more after
-/// as many finds again.
+/// Slots that are made once finds in a map are twice as many as its keys, and once more after as
+/// many finds again.
 ///
 /// ```
 /// let mut repeats: Repeats<usize> = Repeats::new(alloc);    // no slot, and no memory is taken yet
-/// repeats.count_found(7, 40, 1);                            // key 7 was found in a map of one key
+/// repeats.add_found(7, 40, 1);                              // key 7 was found in a map of one key
 /// let position = repeats.get(7);                            // `None`, or `Some(&40)`
 /// ```
 #[derive(Drop)]
@@ -42,54 +39,45 @@ impl<V: Copy + Default, A: Allocator + Clone> Repeats<V, A> {
         }
     }
 
-    /// Whether there is no slot.
-    #[inline(always)]
-    pub fn is_empty(&self) -> bool {
-        self.slots.is_empty()
-    }
-
     /// What was added of `key`, where a slot has it.
     #[inline(always)]
     pub fn get(&self, key: u64) -> Option<&V>
         ensures { IfSome result (λ value. SlotsSay self.now.slots key value.now) }
     {
+        if self.slots.is_empty() {
+            return None;
+        }
         self.slots.get(key)
     }
 
-    /// Counts that a key was found with this value in a map of `count` keys, and adds it where slots
-    /// are made then. Takes memory only for slots, and does without them if it is refused.
+    /// Adds a key that was found with this value in a map of `count` keys. Takes memory only for
+    /// slots, and does without them if it is refused.
     #[inline(always)]
-    pub fn count_found(&mut self, key: u64, value: V, count: usize)
+    pub fn add_found(&mut self, key: u64, value: V, count: usize)
         ensures { SlotsSayBesides self.old.slots self.new.slots key value }
     {
         self.left = self.left.wrapping_sub(1);
         if self.left == 0 {
-            self.make_slots(key, value, count);
+            self.make_slots(count);
+        }
+        if !self.slots.is_empty() {
+            self.slots.add(key, value);
         }
     }
 
-    /// The same, and adds it to the slots that there are.
-    pub fn add_found(&mut self, key: u64, value: V, count: usize)
-        ensures { SlotsSayBesides self.old.slots self.new.slots key value }
-    {
-        self.slots.add(key, value);
-        self.count_found(key, value, count);
-    }
-
-    // Makes slots for so many keys, where they are worth it, and adds one of them.
+    // Makes slots for so many keys, where they are worth it.
     #[cold]
     #[inline(never)]
-    fn make_slots(&mut self, key: u64, value: V, count: usize)
-        ensures { SlotsSayBesides self.old.slots self.new.slots key value }
+    fn make_slots(&mut self, count: usize)
+        ensures { SlotsSayNoMore self.old.slots self.new.slots }
     {
-        let enough = count.saturating_mul(ENOUGH);
+        let enough = count.saturating_mul(2);
         if self.finds >= enough {
             let _ = self.slots.make_room(count);
             self.finds = 0;
         }
         self.left = enough.saturating_sub(self.finds).max(FEW);
         self.finds = self.finds.saturating_add(self.left);
-        self.slots.add(key, value);
     }
 
     /// Frees each slot, and counts anew. Takes no memory, and keeps what it has.
