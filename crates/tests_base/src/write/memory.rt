@@ -39,7 +39,7 @@ fn length_of_strings<A: Allocator + Copy + Drop>(alloc: A) -> Result<usize, Erro
 
 // Whether memory of so many units of 32 bytes serves; where it doesn't, that is the refusal.
 fn is_served(rt: &impl Abort, alloc: Global, units: usize) -> bool
-    requires { units < 128 }
+    requires { units < 192 }
 {
     let heap = LocalHeap::new(alloc, units * 32).expect(rt, "a heap");
     match length_of_strings(&heap) {
@@ -57,7 +57,7 @@ fn is_served(rt: &impl Abort, alloc: Global, units: usize) -> bool
 #[test]
 fn each_budget_serves_or_is_refused(rt: HostRuntime) {
     let (mut refused, mut served) = (false, false);
-    for units in 1..128usize {
+    for units in 1..192usize {
         let is_served = is_served(&rt, rt.alloc(), units);
         served = served || is_served;
         refused = refused || !is_served;

@@ -54,3 +54,41 @@ fn a_serializer_has_the_keys_of_its_sharing(rt: HostRuntime) {
     let _ = serializer.into_writer();
     assert_state(&rt, "afterwards", &mut share, SharingState::Finished(12));
 }
+
+// Keys below 100 are started and finished at their doubles.
+fn finish_hundred<S: Sharing>(rt: &impl Abort, sharing: &mut S) {
+    for key in 0..100usize {
+        let started = sharing.start_sharing(key as u64).expect(rt, "memory");
+        assert_same(rt, "new", started, SharingState::Started);
+        let pos = key.wrapping_mul(2);
+        sharing
+            .finish_sharing(key as u64, pos)
+            .expect(rt, "to finish");
+    }
+}
+
+// Each of them is finished there, a pending key stays pending, and another is unknown.
+fn assert_hundred<S: Sharing>(rt: &impl Abort, sharing: &mut S) {
+    for key in 0..100usize {
+        let found = sharing.start_sharing(key as u64).expect(rt, "to find");
+        let pos = key.wrapping_mul(2);
+        assert_same(rt, "finished", found, SharingState::Finished(pos));
+    }
+    let pending = sharing.start_sharing(u64::MAX).expect(rt, "memory");
+    assert_same(rt, "the last key", pending, SharingState::Started);
+    let again = sharing.start_sharing(u64::MAX).expect(rt, "to find");
+    assert_same(rt, "still pending", again, SharingState::Pending);
+}
+
+#[test]
+fn many_keys_are_found_and_forgotten(rt: HostRuntime) {
+    let mut share = Share::new(rt.alloc());
+    finish_hundred(&rt, &mut share);
+    assert_hundred(&rt, &mut share);
+    share.clear();
+    finish_hundred(&rt, &mut share);
+    assert_hundred(&rt, &mut share);
+    let mut roomy = Share::with_capacity(rt.alloc(), 100).expect(&rt, "memory");
+    finish_hundred(&rt, &mut roomy);
+    assert_hundred(&rt, &mut roomy);
+}

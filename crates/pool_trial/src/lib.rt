@@ -1,0 +1,4 @@
+//! Trial: pools.
+#![tactic(auto)]
+
+pub mod pooling;
