@@ -15,3 +15,4 @@ pub mod Unshared
 pub mod SelfCheck
 pub mod OneList
 pub mod Maps
+pub mod SlotContents

@@ -35,4 +35,5 @@ pub mod Pooled
 pub mod Unshared
 pub mod CleanRegions
 pub mod WriterState
+pub mod Slots
 pub mod SelfCheck

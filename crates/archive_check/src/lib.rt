@@ -5,3 +5,4 @@ pub mod context;
 pub mod format;
 pub mod laws;
 pub mod self_check;
+pub mod slots;

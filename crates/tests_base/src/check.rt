@@ -5,6 +5,7 @@ mod contexts;
 mod leaves;
 mod memory;
 mod ranges;
+mod slots;
 
 use archive_check::format::expr::FlavorInfo;
 

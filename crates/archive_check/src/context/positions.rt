@@ -113,7 +113,7 @@ pub struct SharedValidator<A: Allocator = Global> {
     recalled: FinishedPositions<A>,
     ghost known: { AreKnown shared_types.items (get int_eq positions) },
     ghost distinct: { AreDistinct shared_types.items },
-    ghost recalls: { AreRecalled recalled.slots.items (get int_eq positions) },
+    ghost recalls: { AreRecalled recalled.slots (get int_eq positions) },
 }
 
 impl<A: Allocator + Copy> SharedValidator<A> {

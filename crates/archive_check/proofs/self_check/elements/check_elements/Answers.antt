@@ -1,4 +1,4 @@
-use Rattle.std.proofs.Common.{◌≡◌, ◌+◌, ◌-◌, ◌*◌, ◌<◌, ◌≤◌, ℕ, zero, suc, min, arith, refl, ◌∙◌, length}
+use Rattle.std.proofs.Common.{◌≡◌, ◌+◌, ◌*◌, ◌<◌, ◌≤◌, ℕ, zero, suc, min, arith, refl, ◌∙◌, length}
 use Rattle.archive_check.proofs.SelfCheck.Elements.{toward_element, element_halts, elements_gone, toward_good}
 use Rattle.archive_check.proofs.SelfCheck.Spent.{next_spends, fewer_spend}
 use Rattle.archive_check.proofs.self_check.elements.check_elements.Goals as goal

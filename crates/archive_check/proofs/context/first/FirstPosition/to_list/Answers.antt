@@ -1,4 +1,4 @@
-use Rattle.std.proofs.Common.{rules, ◌≡◌, ap, ◌∙◌}
+use Rattle.std.proofs.Common.{rules, ap, ◌∙◌}
 use Rattle.archive_check.specs.context.Validators.{positions_of}
 use Rattle.archive_check.proofs.context.FirstPositions.{listed_pending, listed_unfinished, listed_finished, refused_new, never_refused}
 use Rattle.archive_check.proofs.context.first.FirstPosition.to_list.Goals as goal

@@ -20,7 +20,7 @@ pub invariant_of-self-2 : goal.invariant_of-self-2
 invariant_of-self-2 g c =
     record {
       known = AreKnown-inserted {S = BuildHasherDefault FoldHasher} _ c.args.self.now.positions c.insert.new.self _ _ _ _ _ (AreKnown-grown _ _ _ c.args.self.now.known c.in_ok-shared_type.ensures.kept) c.in_ok-shared_type.ensures.found c.insert.ensures.updates c.insert.ensures.err;
-      recalls = recalled_inserted {S = BuildHasherDefault FoldHasher} _ c.args.self.now.positions c.insert.new.self _ _ _ _ (to_z-of_z {w = w128} {z = c.args.position} c.ranges.position) c.requires.new c.insert.ensures.updates c.insert.ensures.err
+      recalls = recalled_inserted {S = BuildHasherDefault FoldHasher} c.make_room.new.self.slots c.args.self.now.positions c.insert.new.self _ _ _ _ (to_z-of_z {w = w128} {z = c.args.position} c.ranges.position) c.requires.new c.insert.ensures.updates c.insert.ensures.err
           (c.make_room.ensures (get int_eq c.args.self.now.positions) c.args.self.now.recalls);
       distinct = c.in_ok-shared_type.ensures.distinct c.args.self.now.distinct;
     }
