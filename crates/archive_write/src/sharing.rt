@@ -8,12 +8,11 @@ ghost use Rattle.archive_check.specs.WriterState.{KeepsKeys, KeepsBytes, only_ke
 ghost use Rattle.archive_write.specs.Sharing.{start_answer, IsSet, KnowsNone};
 ghost use Rattle.archive_write.specs.Writes.{IsStarted};
 
+use crate::known::KnownKeys;
 use crate::ser::Serializer;
 use archive_check::format::error::Error;
 use archive_check::format::traits::Keys;
 use std::alloc::{Allocator, Global};
-use std::collections::HashMap;
-use std::hash::{BuildHasherDefault, FoldHasher};
 
 /// What a key was when it was started. As in rkyv 0.8.18.
 #[derive(Clone, Copy, Debug, PartialEq, Eq)]
@@ -76,8 +75,6 @@ impl<W: Keys, A, S: Sharing> Sharing for Serializer<W, A, S> {
     }
 }
 
-type States<A> = HashMap<u64, Option<usize>, BuildHasherDefault<FoldHasher>, A>;
-
 /// The states of the shared keys of one archive, in memory from an `A`. As in rkyv 0.8.18.
 ///
 /// ```
@@ -88,7 +85,7 @@ type States<A> = HashMap<u64, Option<usize>, BuildHasherDefault<FoldHasher>, A>;
 pub struct Share<A: Allocator = Global> {
     alloc: A,
     // In a box, made with the first key: what moves a serializer moves a word of it.
-    states: Option<Box<States<A>, A>>,
+    states: Option<Box<KnownKeys<A>, A>>,
 }
 
 impl<A: Allocator + Clone> Share<A> {
@@ -111,7 +108,7 @@ impl<A: Allocator + Clone> Share<A> {
     {
         let states = Box::new(
             alloc.clone()?,
-            HashMap::with_capacity(alloc.clone()?, capacity)?,
+            KnownKeys::with_capacity(alloc.clone()?, capacity)?,
         )?;
         Ok(Share {
             alloc,
@@ -147,7 +144,7 @@ impl<A: Allocator + Clone> Share<A> {
         let Some(states) = &mut self.states else {
             unreachable!();
         };
-        states.insert(key, None).is_ok()
+        states.start(key)
     }
 
     // Makes the map, where there is none.
@@ -158,7 +155,7 @@ impl<A: Allocator + Clone> Share<A> {
         ensures refusal { IfErr result (λ e. (e ≡ Error.OutOfMemory) × (self.old.states ≡ None)) }
     {
         if self.states.is_none() {
-            let states = HashMap::new(self.alloc.clone()?);
+            let states = KnownKeys::new(self.alloc.clone()?)?;
             self.states = Some(Box::new(self.alloc.clone()?, states)?);
         }
         Ok(())
@@ -170,8 +167,8 @@ impl<A: Allocator + Clone> Keys for Share<A> {
     ghost state = { λ s. only_keys (known_keys s.states) };
 }
 
-/// A start takes memory only if no room is left; it uses up room for one key at most. A finish uses
-/// up none.
+/// A start takes memory only if no room is left, or for slots, whose want refuses nothing; it uses
+/// up room for one key at most. A finish uses up none.
 impl<A: Allocator + Clone> Sharing for Share<A> {
     #[inline(always)]
     fn start_sharing(&mut self, key: u64) -> Result<SharingState, Error>
@@ -187,10 +184,10 @@ impl<A: Allocator + Clone> Sharing for Share<A> {
         ensures served { 0 < spare_keys self.old.states → IsOk result }
         ensures room { spare_keys self.old.states ≤ spare_keys self.new.states + 1 }
     {
-        if let Some(states) = &self.states {
-            match states.get(&key) {
+        if let Some(states) = &mut self.states {
+            match states.find(key) {
                 Some(None) => return Ok(SharingState::Pending),
-                Some(Some(pos)) => return Ok(SharingState::Finished(*pos)),
+                Some(Some(pos)) => return Ok(SharingState::Finished(pos)),
                 None => {}
             }
         }
@@ -213,13 +210,6 @@ impl<A: Allocator + Clone> Sharing for Share<A> {
         let Some(states) = &mut self.states else {
             return Err(Error::NotStarted);
         };
-        match states.get_mut(&key) {
-            None => Err(Error::NotStarted),
-            Some(Some(_)) => Err(Error::AlreadyFinished),
-            Some(state) => {
-                *state = Some(pos);
-                Ok(())
-            }
-        }
+        states.finish(key, pos)
     }
 }

@@ -1,0 +1,116 @@
+//! The keys that are known: a map of their states, and slots for finished ones that are found again.
+
+ghost use Rattle.std.specs.Prelude.{◌≡◌, ◌+◌, ◌≤◌, ◌<◌, None, Some, OnOk, OnErr, IfOk, IsTrue, IsFalse, is_some, nat_eq};
+ghost use Rattle.std.specs.HashMap.{get, spare};
+ghost use Rattle.archive_check.specs.context.PositionStates.{finish_answer};
+ghost use Rattle.archive_check.specs.WriterState.{KeepsKeys};
+ghost use Rattle.archive_write.specs.FinishedKeys.{AreFinishedKeys};
+ghost use Rattle.archive_write.specs.Sharing.{IsSet, KnowsNone};
+ghost use Rattle.archive_write.specs.Writes.{IsStarted};
+
+use crate::repeats::Repeats;
+use archive_check::format::error::Error;
+use std::alloc::{AllocError, Allocator};
+use std::collections::HashMap;
+use std::hash::{BuildHasherDefault, FoldHasher};
+
+type States<A> = HashMap<u64, Option<usize>, BuildHasherDefault<FoldHasher>, A>;
+
+/// The states of keys. A key that many pointers have is finished, and found in a slot.
+#[derive(Drop)]
+pub(crate) struct KnownKeys<A: Allocator> {
+    states: States<A>,
+    repeats: Repeats<usize, A>,
+    ghost recalls: { AreFinishedKeys repeats.slots (get nat_eq states) },
+}
+
+impl<A: Allocator + Clone> KnownKeys<A> {
+    /// No key. Memory comes from `alloc`, and none is taken yet.
+    pub(crate) fn new(alloc: A) -> Result<KnownKeys<A>, AllocError>
+        ensures { IfOk result (λ known. KnowsNone (get nat_eq known.states)) }
+    {
+        Ok(KnownKeys {
+            states: HashMap::new(alloc.clone()?),
+            repeats: Repeats::new(alloc),
+        })
+    }
+
+    /// No key, and room for `capacity` of them. Fails if memory from `alloc` is refused.
+    pub(crate) fn with_capacity(alloc: A, capacity: usize) -> Result<KnownKeys<A>, AllocError>
+        ensures fresh { IfOk result (λ known. KnowsNone (get nat_eq known.states)) }
+        ensures room { IfOk result (λ known. capacity ≤ spare known.states) }
+    {
+        Ok(KnownKeys {
+            states: HashMap::with_capacity(alloc.clone()?, capacity)?,
+            repeats: Repeats::new(alloc),
+        })
+    }
+
+    /// The state of a key: pending, or finished at a position; none where it is unknown.
+    #[inline(always)]
+    pub(crate) fn find(&mut self, key: u64) -> Option<Option<usize>>
+        ensures state { result ≡ get nat_eq self.old.states key }
+        ensures same { self.new.states ≡ self.old.states }
+    {
+        match self.repeats.get(key) {
+            Some(position) => Some(Some(*position)),
+            None => self.search(key),
+        }
+    }
+
+    // The same, by the map.
+    #[inline(always)]
+    fn search(&mut self, key: u64) -> Option<Option<usize>>
+        ensures state { result ≡ get nat_eq self.old.states key }
+        ensures same { self.new.states ≡ self.old.states }
+    {
+        let state = self.states.get(&key).copied();
+        if let Some(Some(position)) = state {
+            self.repeats.add_found(key, position, self.states.len());
+        }
+        state
+    }
+
+    /// Starts an unknown key, and returns whether there was memory for it.
+    pub(crate) fn start(&mut self, key: u64) -> bool
+        requires { get nat_eq self.old.states key ≡ None }
+        ensures started { IsTrue result → IsStarted (get nat_eq self.old.states) key
+            (get nat_eq self.new.states) }
+        ensures unchanged { IsFalse result → KeepsKeys (get nat_eq self.old.states)
+            (get nat_eq self.new.states) }
+        ensures served { 0 < spare self.old.states → IsTrue result }
+        ensures room { spare self.old.states ≤ spare self.new.states + 1 }
+    {
+        self.states.insert(key, None).is_ok()
+    }
+
+    /// Finishes the pending `key` at `position`. Takes no memory.
+    pub(crate) fn finish(&mut self, key: u64, position: usize) -> Result<(), Error>
+        ensures answer { result ≡ finish_answer is_some (get nat_eq self.old.states key) }
+        ensures after { OnOk result (IsSet (get nat_eq self.old.states) key (Some (Some position))
+            (get nat_eq self.new.states)) }
+        ensures unchanged { OnErr result (KeepsKeys (get nat_eq self.old.states)
+            (get nat_eq self.new.states)) }
+        ensures room { spare self.new.states ≡ spare self.old.states }
+    {
+        match self.states.get_mut(&key) {
+            None => Err(Error::NotStarted),
+            Some(state) => {
+                if state.is_some() {
+                    return Err(Error::AlreadyFinished);
+                }
+                *state = Some(position);
+                Ok(())
+            }
+        }
+    }
+
+    /// Forgets every key. Takes no memory, and keeps what it has.
+    pub(crate) fn clear(&mut self)
+        ensures fresh { KnowsNone (get nat_eq self.new.states) }
+        ensures room { spare self.old.states ≤ spare self.new.states }
+    {
+        self.states.clear();
+        self.repeats.clear();
+    }
+}
