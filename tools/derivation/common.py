@@ -100,7 +100,7 @@ class Source:
         formats.ghost("Shape", "one", "parts", "part", "no_part", "choice", "variant", "no_variant")
         formats.ghost("Seen", "IsPartOf")
         formats.ghost("CallOutcomes", "ResolvesAs")
-        formats.ghost("Sources", "ReadsAs")
+        formats.ghost("ReadBack", "ReadsAs")
         formats.ghost("Writing", "ZeroedPlace")
 
 

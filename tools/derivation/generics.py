@@ -235,7 +235,7 @@ def views(made):
 def seals(made):
     f = made.formats
     f.use("archive_core::seal", "Seal")
-    f.ghost("SealsWritten", "IsSealOf", "SealsPart")
+    f.ghost("SealOutcomes", "IsSealOf", "SealsPart")
     format_of_all = f"{made.archived}{made.brackets()}"
     whole = f"⟦<{format_of_all} as ArchivePointee>⟧"
     f.use("archive_core::traits", "ArchivePointee")

@@ -299,7 +299,7 @@ def seals(record):
         return ""
     f = record.formats
     f.use("archive_core::seal", "Seal", "sealed_part_in_record")
-    f.ghost("SealsWritten", "IsSealOf", "SealsPart")
+    f.ghost("SealOutcomes", "IsSealOf", "SealsPart")
     pointee = f"(one ⟦<{record.archived} as Portable>⟧.shape)"
     heads, bodies = [], []
     for i, (field, format, offset) in enumerate(zip(record.fields, record.formats_of, record.offsets)):

@@ -83,7 +83,7 @@ def seals(choice):
     if not any(case.count for case in choice.cases):
         return ""
     f.use("archive_core::seal", "Seal", "sealed_part_in_case")
-    f.ghost("SealsWritten", "IsSealOf", "SealsPart", "seal_tag")
+    f.ghost("SealOutcomes", "IsSealOf", "SealsPart", "seal_tag")
     f.ghost("std.specs.Prelude", "ℕ")
     pointee = f"(one ⟦<{choice.archived} as Portable>⟧.shape)"
     heads, bodies, names = [], [], {}

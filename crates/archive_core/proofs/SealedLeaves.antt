@@ -23,7 +23,7 @@ use Rattle.archive_types.specs.Sealed.{Encodes, leaf_at, text_begin, string_leaf
 use Rattle.archive_types.proofs.Viewing.Shown.{leaf_shown, text_shown, string_shown}
 use Rattle.archive_inspect.proofs.StandingLeaves.{leaf_stands, text_stands, string_stands}
 use Rattle.archive_core.specs.SealsKept.{IsFreeIn}
-use Rattle.archive_core.specs.SealsWritten.{WritesNumber, WritesText, WritesString, string_edit}
+use Rattle.archive_core.specs.SealOutcomes.{WritesNumber, WritesText, WritesString, string_edit}
 use Rattle.archive_core.proofs.SealedParts.{text_comes}
 use Rattle.archive_core.proofs.StandingParts.{writes_over}
 

@@ -25,7 +25,7 @@ use Rattle.archive_inspect.proofs.StandingLeaves.{out_is}
 use Rattle.archive_types.specs.Members.KnownParts.{KnowsAlso}
 use Rattle.archive_types.specs.Standing.{View, view}
 use Rattle.archive_core.specs.SealsKept.{ComesWith}
-use Rattle.archive_core.specs.SealsWritten.{IsSealOf, SealsPart}
+use Rattle.archive_core.specs.SealOutcomes.{IsSealOf, SealsPart}
 use Rattle.archive_core.specs.declared.seal.Seal.{Seal}
 use Rattle.archive_core.proofs.ComePart.{come_part}
 

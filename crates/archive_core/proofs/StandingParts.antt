@@ -23,7 +23,7 @@ use Rattle.archive_check.specs.Revised.{WritesLeaf}
 use Rattle.archive_types.specs.Sealed.{StandsIn}
 use Rattle.archive_types.specs.Standing.{View, view}
 use Rattle.archive_core.specs.SealsKept.{IsFreeIn, KeepsParts, LieTogether, KeepsSeals}
-use Rattle.archive_core.specs.SealsWritten.{WritesOver}
+use Rattle.archive_core.specs.SealOutcomes.{WritesOver}
 use Rattle.archive_core.proofs.ComePart.{map_hole, come_part}
 
 -- the second value is the first one, or that with the leaf y in place of x

@@ -10,7 +10,7 @@ use Rattle.archive_check.specs.SelfCheck.Maps.{entry_definitions, entry_size}
 use Rattle.archive_check.specs.Words.Formats.{FormatOf}
 use Rattle.archive_types.specs.Compared.{Standing, standing}
 use Rattle.archive_types.specs.Maps.{entry_value_begin}
-use Rattle.archive_core.specs.SealsWritten.{IsSealOf, SealsPart}
+use Rattle.archive_core.specs.SealOutcomes.{IsSealOf, SealsPart}
 use Rattle.archive_core.specs.declared.seal.Seal.{Seal}
 
 -- The seal shows a map, of keys and values of these formats.

@@ -2,7 +2,7 @@
 use Rattle.std.specs.Prelude.{◌≡◌, ◌+◌, Option, MatchOption, IfSome}
 use Rattle.archive_check.specs.Shape.{one}
 use Rattle.archive_check.specs.Words.Formats.{FormatOf}
-use Rattle.archive_core.specs.SealsWritten.{IsSealOf, SealsPart, seal_tag}
+use Rattle.archive_core.specs.SealOutcomes.{IsSealOf, SealsPart, seal_tag}
 use Rattle.archive_core.specs.declared.seal.Seal.{Seal}
 use Rattle.archive_enum.specs.Choices.{option_shape}
 

@@ -10,7 +10,7 @@ ghost use Rattle.archive_check.specs.Shape.{one};
 ghost use Rattle.archive_core.specs.WholeArchives.{AppendsArchive, AppendsTaken, MakesArchive, ReadsArchive, LacksSchema, AnswersRoot};
 ghost use Rattle.archive_types.specs.Causes.{IsRegionRefused};
 ghost use Rattle.archive_types.specs.Plans.{unshared};
-ghost use Rattle.archive_types.specs.Words.Sources.{ViewReadsAs};
+ghost use Rattle.archive_types.specs.Words.ReadBack.{ViewReadsAs};
 ghost use Rattle.archive_write.specs.Written.{GoesOn};
 ghost use Rattle.archive_schema.specs.ContextAnswers.{AnswersIn};
 

@@ -1,10 +1,9 @@
 -- Short words that clauses use.
-pub mod CopiesWritten
-pub mod Placed
+pub mod BulkCopies
+pub mod WrittenPointers
 pub mod PlacedParts
 pub mod Seen
-pub mod Sources
-pub mod KindsWritten
-pub mod SharedWriting
+pub mod ReadBack
+pub mod SharedPointers
 pub mod OffsetsWritten
 pub mod SeenEntries

@@ -9,7 +9,7 @@ ghost use Rattle.archive_types.specs.Causes.{HindersAt};
 ghost use Rattle.archive_types.specs.Members.Options.{option_meaning, option_keys, option_flat, OptionBelongs, option_keyed, option_planned};
 ghost use Rattle.archive_types.specs.Members.PlannedOwners.{one_planned};
 ghost use Rattle.archive_types.specs.Words.Seen.{tag_of, StandsBeside, IsPartOf};
-ghost use Rattle.archive_types.specs.Words.Sources.{ReadsAs};
+ghost use Rattle.archive_types.specs.Words.ReadBack.{ReadsAs};
 ghost use Rattle.archive_types.specs.Standing.{StandsWith, view};
 ghost use Rattle.archive_types.specs.Writing.{ZeroedPlace, Resolves};
 ghost use Rattle.archive_types.specs.Outcomes.{ResolvesAs};

@@ -7,7 +7,7 @@ ghost use Rattle.archive_check.specs.Reads.{bytes_at, IsLegal};
 ghost use Rattle.archive_check.specs.Definitions.{Definitions};
 ghost use Rattle.archive_check.specs.Value.{number};
 ghost use Rattle.archive_types.specs.Words.Seen.{IsPartOf};
-ghost use Rattle.archive_types.specs.Words.Sources.{Read};
+ghost use Rattle.archive_types.specs.Words.ReadBack.{Read};
 ghost use Rattle.archive_types.specs.Writing.{Resolves};
 
 use crate::traits::{Archive, ArchivePointee, Deserialize, Entries, Portable};

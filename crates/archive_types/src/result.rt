@@ -10,7 +10,7 @@ ghost use Rattle.archive_types.specs.Causes.{HindersAt};
 ghost use Rattle.archive_types.specs.Members.PlannedOwners.{one_planned};
 ghost use Rattle.archive_types.specs.Members.Results.{result_meaning, result_keys, result_flat, ResultBelongs, result_keyed, result_planned};
 ghost use Rattle.archive_types.specs.Words.Seen.{tag_of, StandsBeside, IsPartOf};
-ghost use Rattle.archive_types.specs.Words.Sources.{ReadsAs};
+ghost use Rattle.archive_types.specs.Words.ReadBack.{ReadsAs};
 ghost use Rattle.archive_types.specs.Writing.{ZeroedPlace, Resolves};
 ghost use Rattle.archive_types.specs.Outcomes.{ResolvesAs};
 

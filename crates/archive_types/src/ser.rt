@@ -7,7 +7,7 @@ ghost use Rattle.archive_check.specs.Layout.{has_length};
 ghost use Rattle.archive_check.specs.Shape.{one};
 ghost use Rattle.archive_num.specs.Offsets.{distance};
 ghost use Rattle.archive_types.specs.Causes.{HindersAt};
-ghost use Rattle.archive_types.specs.Words.Placed.{Pointed, PointerRefused};
+ghost use Rattle.archive_types.specs.Words.WrittenPointers.{Pointed, PointerRefused};
 ghost use Rattle.archive_types.specs.Runs.{EachBelongs};
 ghost use Rattle.archive_types.specs.Writing.{ZeroedPlace, Resolves};
 ghost use Rattle.archive_write.specs.Written.{GoesOn};
@@ -342,8 +342,8 @@ pub trait ResolveExt: Writer {
         ensures fits { OnOk result (FitsSigned w32 (distance (Self.position self.old) to)) }
         ensures held { OnOk result (T.source_length value.now ≤ 4294967295) }
         ensures position { IfOk result (λ p. p ≡ Self.position self.old) }
-        ensures refused { IfErr result (PointerRefused T.Archived.pointee (T.source_length value.now) to
-            Self.position Self.Keys self) }
+        ensures refused { IfErr result (PointerRefused T.Archived.pointee
+            (T.source_length value.now) to Self.position Self.Keys self) }
         ensures goes_on { GoesOn (Self.state self.old) (Self.state self.new) }
         ensures keys { KeepsKeys (Self.state self.old).states (Self.state self.new).states }
     {

@@ -4,7 +4,7 @@ ghost use Rattle.std.specs.Prelude.{◌≡◌, ◌⊎◌, None, Option, Some, �
 ghost use Rattle.archive_check.specs.WriterState.{KeepsBytes, KeepsKeys};
 ghost use Rattle.archive_types.specs.Causes.{Explains, HindersShared, HindersRegion, RegionReaches};
 ghost use Rattle.archive_types.specs.Plans.{cursor, begun, SerializedShared};
-ghost use Rattle.archive_types.specs.Words.SharedWriting.{SharedRefused};
+ghost use Rattle.archive_types.specs.Words.SharedPointers.{SharedRefused};
 ghost use Rattle.archive_write.specs.Sharing.{known_answer};
 ghost use Rattle.archive_write.specs.Written.{GoesOn};
 

@@ -19,12 +19,12 @@ ghost use Rattle.archive_write.specs.Written.{GoesOn};
 ghost use Rattle.archive_types.specs.Causes.{HindersAt, IsRefused, IsRegionRefused};
 ghost use Rattle.archive_types.specs.Members.Keyed.{text_keyed};
 ghost use Rattle.archive_num.specs.Offsets.{distance, IsTooFar};
-ghost use Rattle.archive_types.specs.Words.Placed.{IsTooFarFrom, AtOnce, Added};
+ghost use Rattle.archive_types.specs.Words.WrittenPointers.{IsTooFarFrom, AtOnce, Added};
 ghost use Rattle.archive_types.specs.Members.Planned.{string_planned, text_planned};
 ghost use Rattle.archive_types.specs.Members.PlannedOwners.{is_long, one_planned};
 ghost use Rattle.archive_types.specs.Plans.{Serialized, SerializedRegion};
 ghost use Rattle.archive_types.specs.Words.Seen.{IsPartOf};
-ghost use Rattle.archive_types.specs.Words.Sources.{Read};
+ghost use Rattle.archive_types.specs.Words.ReadBack.{Read};
 ghost use Rattle.archive_types.specs.Strings.{string_form, string_flat};
 ghost use Rattle.archive_types.specs.TextPlans.{HindersStringAt, ExplainsTextRefusal, ExplainsStringRefusal};
 ghost use Rattle.archive_types.specs.Writing.{ZeroedPlace, Resolves};
@@ -224,8 +224,8 @@ impl<'a, S: Writer + Keys> SerializeUnsized<S> for Text<'a> {
         ensures keys { KeepsKeys (S.state serializer.old).states (S.state serializer.new).states }
         ensures too_long { 4294967295 < length self.now.text.now
             → AtOnce result LengthTooLarge S.Keys serializer }
-        ensures cause { IfErr result (ExplainsTextRefusal self.now.text.now (S.position serializer.old)
-            (S.state serializer.old) (S.state serializer.new)) }
+        ensures cause { IfErr result (ExplainsTextRefusal self.now.text.now
+            (S.position serializer.old) (S.state serializer.old) (S.state serializer.new)) }
     {
         if let Err(error) = self.archived_metadata() {
             return Err(error);

@@ -9,7 +9,7 @@ ghost use Rattle.archive_check.specs.Shape.{run};
 ghost use Rattle.archive_check.specs.Value.{Value, list};
 ghost use Rattle.archive_check.specs.Viewed.{Viewed};
 ghost use Rattle.archive_check.specs.declared.format.error.Error.TheVariants.{LengthTooLarge};
-ghost use Rattle.archive_types.specs.Words.CopiesWritten.{CopiesInBulk};
+ghost use Rattle.archive_types.specs.Words.BulkCopies.{CopiesInBulk};
 ghost use Rattle.archive_types.specs.Words.Seen.{IsPartOf};
 ghost use Rattle.archive_types.specs.Causes.{HindersAt, IsRefused, IsRegionRefused};
 ghost use Rattle.archive_types.specs.Plans.{HasPlan, HasRegionPlan, Serialized, SerializedRegion};
@@ -159,7 +159,7 @@ pub trait Serialize<S: Writer + Keys>: Archive {
 /// As in rkyv 0.8.18, by views in place of references.
 pub trait Deserialize<T: Archive, D: Entries>: ArchivePointee {
     ghost use Rattle.archive_types.specs.FirstRead.{AreFirstRead};
-    ghost use Rattle.archive_types.specs.Words.Sources.{ReadsAs, ViewReadsAs};
+    ghost use Rattle.archive_types.specs.Words.ReadBack.{ReadsAs, ViewReadsAs};
     ghost use Rattle.archive_types.specs.Views.{AreViewed};
 
     /// What implementors write, over the part of a view; callers use `deserialize`. The caller must
@@ -261,7 +261,7 @@ pub trait SerializeUnsized<S: Writer + Keys>: ArchiveUnsized {
 
 /// A pointee that can be read back as a `T`: the value, a vector of the elements, or a string. As in rkyv 0.8.18, by views in place of references.
 pub trait DeserializeUnsized<T: Archive, D: Entries>: ArchivePointee {
-    ghost use Rattle.archive_types.specs.Words.Sources.{ReadsAs, ViewReadsAs};
+    ghost use Rattle.archive_types.specs.Words.ReadBack.{ReadsAs, ViewReadsAs};
 
     /// What implementors write, over the part of a view; callers use `deserialize_unsized`. The
     /// caller must ensure what a view promises of the part.

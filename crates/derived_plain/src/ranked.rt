@@ -50,11 +50,11 @@ ghost use Rattle.archive_core.specs.Plain.{plain_choice, plain_own_check, plain_
 ghost use Rattle.archive_core.specs.Planned.{leaf_planned, string_planned};
 ghost use Rattle.archive_core.specs.PlannedMaps.{map_of_pairs_planned, pairs_keyed};
 ghost use Rattle.archive_core.specs.PlannedOwners.{boxed_one_planned, one_planned, slice_planned, vec_planned};
+ghost use Rattle.archive_core.specs.ReadBack.{ReadsAs};
 ghost use Rattle.archive_core.specs.Results.{result_keyed, result_planned};
-ghost use Rattle.archive_core.specs.SealsWritten.{IsSealOf, SealsPart, seal_tag};
+ghost use Rattle.archive_core.specs.SealOutcomes.{IsSealOf, SealsPart, seal_tag};
 ghost use Rattle.archive_core.specs.Seen.{IsPartOf, ShowsValueOf, tag_of};
 ghost use Rattle.archive_core.specs.Shape.{choice, no_part, no_variant, one, part, parts, variant};
-ghost use Rattle.archive_core.specs.Sources.{ReadsAs};
 ghost use Rattle.archive_core.specs.Value.{case, no_value, product, value};
 ghost use Rattle.archive_core.specs.Writing.{ZeroedPlace};
 ghost use Rattle.std.proofs.Common.{inl, inr, lit≤};

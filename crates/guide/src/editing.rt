@@ -1,6 +1,6 @@
 //! An entry is edited in place: its number, and the field of a variant.
 
-ghost use Rattle.archive_core.specs.SealsWritten.{IsSealOf};
+ghost use Rattle.archive_core.specs.SealOutcomes.{IsSealOf};
 
 use crate::entries::{archived, moved, step, viewed};
 use crate::entry::{ArchivedEntry, EntrySeal, EntryView};

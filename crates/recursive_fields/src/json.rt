@@ -65,12 +65,12 @@ ghost use Rattle.archive_core.specs.Plain.{plain_own_check, plain_record, plain_
 ghost use Rattle.archive_core.specs.Planned.{leaf_planned};
 ghost use Rattle.archive_core.specs.PlannedOwners.{one_planned};
 ghost use Rattle.archive_core.specs.Plans.{Serialized};
+ghost use Rattle.archive_core.specs.ReadBack.{Read, ReadsAs};
 ghost use Rattle.archive_core.specs.Runs.{EachBelongs, IsRunRefused, SerializedRun, each_flat, each_keys, each_meaning};
-ghost use Rattle.archive_core.specs.SealsWritten.{IsSealOf, SealsPart, seal_tag};
+ghost use Rattle.archive_core.specs.SealOutcomes.{IsSealOf, SealsPart, seal_tag};
 ghost use Rattle.archive_core.specs.Seen.{IsPartOf, RefusesPart, ShowsValueOf, part_tag, tag_of};
 ghost use Rattle.archive_core.specs.SelfCheck.Laws.{by_schema};
 ghost use Rattle.archive_core.specs.Shape.{no_part, one, part, parts, variant, vec};
-ghost use Rattle.archive_core.specs.Sources.{Read, ReadsAs};
 ghost use Rattle.archive_core.specs.Value.{case, no_value, product, value};
 ghost use Rattle.archive_core.specs.Writing.{ZeroedPlace};
 ghost use Rattle.archive_core.specs.Written.{GoesOn};
@@ -646,7 +646,7 @@ impl<S: Writer + Keys + ResolverAlloc> SerializeUnsized<S> for Json {
     }
 }
 
-// Reads a vector back.
+// Reads a vector back. One with no elements takes no call, whose result would go through memory.
 #[cycle(read_json)]
 #[inline(always)]
 fn read_vec_json<D: Entries>(
@@ -694,7 +694,7 @@ fn read_each_json<D: Entries>(
     Ok(items)
 }
 
-// Reads a vector back.
+// Reads a vector back. One with no elements takes no call, whose result would go through memory.
 #[cycle(read_json)]
 #[inline(always)]
 fn read_vec_member_type<D: Entries>(

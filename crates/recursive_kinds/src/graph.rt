@@ -21,7 +21,7 @@ ghost use Rattle.archive_core.specs.Keyed.{each_keyed, nothing_keyed, part_keyed
 ghost use Rattle.archive_core.specs.PartsPlanned.{no_part_planned, part_planned, product_planned};
 ghost use Rattle.archive_core.specs.Planned.{string_planned};
 ghost use Rattle.archive_core.specs.PlannedOwners.{one_planned, slice_planned, vec_planned};
-ghost use Rattle.archive_core.specs.SealsWritten.{IsSealOf, SealsPart};
+ghost use Rattle.archive_core.specs.SealOutcomes.{IsSealOf, SealsPart};
 ghost use Rattle.archive_core.specs.Seen.{ShowsValueOf};
 ghost use Rattle.archive_core.specs.Shape.{no_part, part};
 ghost use Rattle.archive_core.specs.SharedSources.{rc_keyed, rc_one_planned};

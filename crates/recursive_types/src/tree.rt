@@ -18,12 +18,12 @@ ghost use Rattle.archive_core.specs.Expressed.{ExpressesParts};
 ghost use Rattle.archive_core.specs.Fields.{field_in};
 ghost use Rattle.archive_core.specs.PlannedOwners.{one_planned};
 ghost use Rattle.archive_core.specs.Plans.{Serialized};
+ghost use Rattle.archive_core.specs.ReadBack.{Read, ReadsAs};
 ghost use Rattle.archive_core.specs.Runs.{EachBelongs, IsRunRefused, SerializedRun, each_flat, each_keys, each_meaning};
-ghost use Rattle.archive_core.specs.SealsWritten.{IsSealOf, SealsPart};
+ghost use Rattle.archive_core.specs.SealOutcomes.{IsSealOf, SealsPart};
 ghost use Rattle.archive_core.specs.Seen.{IsPartOf, RefusesPart, ShowsValueOf};
 ghost use Rattle.archive_core.specs.SelfCheck.Laws.{by_schema};
 ghost use Rattle.archive_core.specs.Shape.{one, part, parts, vec};
-ghost use Rattle.archive_core.specs.Sources.{Read, ReadsAs};
 ghost use Rattle.archive_core.specs.Value.{value};
 ghost use Rattle.archive_core.specs.Writing.{ZeroedPlace};
 ghost use Rattle.archive_core.specs.Written.{GoesOn};
@@ -316,7 +316,7 @@ impl<S: Writer + Keys + ResolverAlloc> SerializeUnsized<S> for Tree {
     }
 }
 
-// Reads a vector back.
+// Reads a vector back. One with no elements takes no call, whose result would go through memory.
 #[cycle(read_tree)]
 #[inline(always)]
 fn read_vec_tree<D: Entries>(

@@ -3,7 +3,7 @@
 
 ghost use Rattle.archive_core.specs.Definitions.{no_definition};
 ghost use Rattle.archive_core.specs.Shape.{one};
-ghost use Rattle.archive_core.specs.SealsWritten.{IsSealOf};
+ghost use Rattle.archive_core.specs.SealOutcomes.{IsSealOf};
 
 use crate::assertions::{
     assert_bytes, assert_holds, assert_same, assert_written, sealed, value_of, viewed,

@@ -5,7 +5,7 @@ ghost use Rattle.std.specs.Prelude.{◌≡◌, ◌≤◌, Some};
 ghost use Rattle.archive_core.specs.KnownParts.{KnowsAlso};
 ghost use Rattle.archive_core.specs.PartsLayout.{part_at, definitions_at};
 ghost use Rattle.archive_core.specs.Shape.{one, vec as vec_shape};
-ghost use Rattle.archive_core.specs.SealsWritten.{IsSealOf};
+ghost use Rattle.archive_core.specs.SealOutcomes.{IsSealOf};
 
 use crate::assertions::{
     assert_bytes, assert_changed, assert_holds, assert_same, made, sealed, tag_of_none, viewed,

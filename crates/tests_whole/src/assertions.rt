@@ -3,7 +3,7 @@
 // writes out all locals of a body at each of its steps, and an `Error` among them in a hundred lines. What isn't as it should be ends the process.
 
 ghost use Rattle.std.specs.Prelude.{◌≡◌};
-ghost use Rattle.archive_core.specs.SealsWritten.{IsSealOf};
+ghost use Rattle.archive_core.specs.SealOutcomes.{IsSealOf};
 
 use archive_core::api::{HighSerializer, access, access_mut, from_bytes, to_bytes};
 use archive_core::error::Error;

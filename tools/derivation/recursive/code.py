@@ -92,7 +92,7 @@ def bring(it):
     f.ghost("Value", "case", "product", "value", "no_value")
     f.ghost("Error.TheVariants", "OutOfMemory")
     f.ghost("Seen", "IsPartOf", "RefusesPart", "ReadsPart", "part_tag")
-    f.ghost("Sources", "Read", "ReadsAs")
+    f.ghost("ReadBack", "Read", "ReadsAs")
     f.ghost("CallOutcomes", "ResolvesAs")
     f.ghost("Causes", "IsRefused")
     f.ghost("Plans", "Serialized")

@@ -5,7 +5,7 @@ ghost use Rattle.archive_check.specs.Definitions.{no_definition};
 ghost use Rattle.archive_check.specs.Shape.{no_part};
 ghost use Rattle.archive_check.specs.Value.{no_value};
 ghost use Rattle.archive_core.specs.fields.CloseFields.{ReadClose};
-ghost use Rattle.archive_types.specs.Words.KindsWritten.{IsCopiedAs};
+ghost use Rattle.archive_types.specs.Copies.{IsCopied};
 
 use archive_types::traits::Copied;
 
@@ -15,7 +15,8 @@ pub(super) fn copy_front<A: Copied>(a: &A, bytes: &mut [u8]) -> usize
     requires room { A.CopiedAs.layout.size ≤ length bytes.old }
     ensures end { result ≡ A.CopiedAs.layout.size }
     ensures copied { take result bytes.new ≡ A.copied_bytes a.now }
-    ensures read { IsCopiedAs A.CopiedAs.Portable (A.copied_meaning a.now) (A.copied_bytes a.now) }
+    ensures read { IsCopied A.CopiedAs.definitions A.CopiedAs.shape A.CopiedAs.layout.size
+        (A.copied_meaning a.now) (A.copied_bytes a.now) }
     ensures same_length { length bytes.new ≡ length bytes.old }
 {
     let end = A::copied_size();

@@ -55,7 +55,8 @@ impl<const N: usize, R: PortableVariants> PortableVariants for UnitVariants<N, R
 
     ghost is_align = { R.is_align };
 
-    ghost laid_out = { units_laid_out N R.definitions R.variants R.greatest R.end R.begin R.laid_out };
+    ghost laid_out = { units_laid_out N R.definitions R.variants R.greatest R.end R.begin
+        R.laid_out };
 
     ghost no_others = { units_reached N R.definitions R.variants R.no_others };
 

@@ -13,7 +13,7 @@ ghost use Rattle.archive_types.specs.Words.Seen.{IsPartOf, RefusesPart};
 ghost use Rattle.archive_types.specs.Members.Options.{option_keys};
 ghost use Rattle.archive_types.specs.Members.SharedLaws.{flavor_as, weak_value};
 ghost use Rattle.archive_types.specs.Members.SharedSources.{rc_keys};
-ghost use Rattle.archive_types.specs.Words.Sources.{Read};
+ghost use Rattle.archive_types.specs.Words.ReadBack.{Read};
 ghost use Rattle.archive_core.specs.SharedSeen.{HandsOutTarget, FinishesTarget};
 ghost use Rattle.archive_core.specs.Spans.{one_spans, text_spans, slice_spans, cloned_kept};
 

@@ -6,7 +6,7 @@ ghost use Rattle.archive_check.specs.Members.VariantsLayout.{payload_at, payload
 ghost use Rattle.archive_core.specs.fields.Plain.{variant_count};
 ghost use Rattle.archive_types.specs.Members.KnownParts.{KnowsAlso};
 ghost use Rattle.archive_types.specs.Words.Seen.{IsPartOf, part_tag};
-ghost use Rattle.archive_types.specs.Words.Sources.{ReadsAs};
+ghost use Rattle.archive_types.specs.Words.ReadBack.{ReadsAs};
 
 use archive_check::format::error::Error;
 use archive_types::traits::{Archive, Choice, Deserialize, Entries, Portable, Record};

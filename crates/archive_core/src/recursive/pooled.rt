@@ -5,7 +5,7 @@ ghost use Rattle.archive_check.specs.Readable.{target_from};
 ghost use Rattle.archive_check.specs.Reads.{length_at};
 ghost use Rattle.archive_core.specs.recursive.PooledParts.{Awaits, IsNotPooled, IsPooled, ReadsPointer};
 ghost use Rattle.archive_types.specs.Words.Seen.{IsPartOf, RefusesPart};
-ghost use Rattle.archive_types.specs.Words.SharedWriting.{flavor_of_type};
+ghost use Rattle.archive_types.specs.Words.SharedPointers.{flavor_of_type};
 
 use crate::pooling::{Pooled, Pooling, PoolingState};
 use archive_check::format::error::Error;

@@ -178,7 +178,8 @@ fn write_elements<S: Writer + ResolverAlloc, T: Archive, B: Allocator + Drop>(
 
 // Writes a zero byte if the writer is still at this position, where a value of no size lies: what comes next would lie there, too.
 fn close_shared<S: Writer>(pos: usize, serializer: &mut S) -> Result<(), Error>
-    ensures closed { OnOk result (IsConcluded pos (S.state serializer.old) (S.state serializer.new)) }
+    ensures closed { OnOk result (IsConcluded pos (S.state serializer.old)
+        (S.state serializer.new)) }
     ensures goes_on { GoesOn (S.state serializer.old) (S.state serializer.new) }
     ensures refused { IfErr result (IsNotConcluded pos (S.state serializer.old)
         (S.state serializer.new)) }

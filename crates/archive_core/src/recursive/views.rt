@@ -3,7 +3,7 @@
 ghost use Rattle.std.specs.Prelude.{◌≡◌, ◌+◌, ◌<◌, Some};
 ghost use Rattle.archive_check.specs.Members.PartsLayout.{definitions_at, part_at};
 ghost use Rattle.archive_check.specs.Members.VariantsLayout.{payload_at, payload_definitions};
-ghost use Rattle.archive_core.specs.SealsWritten.{IsSealOf, SealsPart, seal_tag};
+ghost use Rattle.archive_core.specs.SealOutcomes.{IsSealOf, SealsPart, seal_tag};
 ghost use Rattle.archive_core.specs.fields.Plain.{variant_count};
 ghost use Rattle.archive_types.specs.Fields.{field_in};
 ghost use Rattle.archive_types.specs.Members.KnownParts.{KnowsAlso};

@@ -2,7 +2,7 @@
 
 ghost use Rattle.std.specs.Prelude.{◌≡◌, ◌+◌, Some, slice_index};
 ghost use Rattle.archive_check.specs.Members.VariantsLayout.{payload_at, payload_definitions};
-ghost use Rattle.archive_core.specs.SealsWritten.{IsSealOf, SealsPart, seal_tag};
+ghost use Rattle.archive_core.specs.SealOutcomes.{IsSealOf, SealsPart, seal_tag};
 ghost use Rattle.archive_types.specs.Members.KnownParts.{KnowsAlso};
 
 use super::{Seal, Spot};

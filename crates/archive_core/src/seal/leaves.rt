@@ -3,7 +3,7 @@
 ghost use Rattle.std.specs.Prelude.{◌≡◌, ◌+◌, ◌≤◌, length};
 ghost use Rattle.archive_check.specs.ComesTo.{IsComeTo};
 ghost use Rattle.archive_check.specs.Leaves.{edit};
-ghost use Rattle.archive_core.specs.SealsWritten.{IsSealOf, WritesNumber};
+ghost use Rattle.archive_core.specs.SealOutcomes.{IsSealOf, WritesNumber};
 
 use super::{Seal, Spot};
 use archive_check::format::traits::ArchivePointee;

@@ -6,9 +6,9 @@ ghost use Rattle.archive_check.specs.Readable.{target_from};
 ghost use Rattle.archive_check.specs.Reads.{i32_at, length_at, u32_at};
 ghost use Rattle.archive_check.specs.Shape.{array, one, run, text, boxed, shared, weak, vec as vec_shape};
 ghost use Rattle.archive_core.specs.SealedOptions.{IsSealOfOption, SealsValue};
-ghost use Rattle.archive_core.specs.SealsWritten.{IsSealOf, SealsPart};
+ghost use Rattle.archive_core.specs.SealOutcomes.{IsSealOf, SealsPart};
 ghost use Rattle.archive_types.specs.Members.SharedLaws.{flavor_as};
-ghost use Rattle.archive_types.specs.Words.SharedWriting.{flavor_of_type, weak_to};
+ghost use Rattle.archive_types.specs.Words.SharedPointers.{flavor_of_type, weak_to};
 
 use super::{Seal, Spot};
 use archive_types::boxed::ArchivedBox;

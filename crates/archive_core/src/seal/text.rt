@@ -9,7 +9,7 @@ ghost use Rattle.archive_check.specs.Reads.{bytes_at};
 ghost use Rattle.archive_check.specs.Shape.{str as str_shape, one, text};
 ghost use Rattle.archive_check.specs.Viewed.{Viewed};
 ghost use Rattle.archive_core.specs.SealsKept.{ComesWith};
-ghost use Rattle.archive_core.specs.SealsWritten.{IsSealOf, SealsPart, WritesText, WritesString, string_edit};
+ghost use Rattle.archive_core.specs.SealOutcomes.{IsSealOf, SealsPart, WritesText, WritesString, string_edit};
 ghost use Rattle.archive_types.specs.Sealed.{text_begin};
 ghost use Rattle.archive_types.specs.Standing.{view};
 

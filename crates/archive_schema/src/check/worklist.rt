@@ -211,7 +211,8 @@ impl Worklist {
     // A region is left alone.
     #[inline(always)]
     fn push_leave(&mut self, start: usize, end: usize) -> Option<()>
-        ensures some { OnSome result (list_of self.new ≡ Work.Leave start end 0 ∷ list_of self.old) }
+        ensures some { OnSome result (list_of self.new ≡ Work.Leave start end 0 ∷ list_of
+            self.old) }
         ensures none { IfNone result (self.new.fault ≡ Error.OutOfMemory) }
         ensures kept { IfNone result (list_of self.new ≡ list_of self.old) }
     {

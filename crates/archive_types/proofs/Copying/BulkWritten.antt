@@ -11,7 +11,7 @@ use Rattle.archive_check.specs.declared.format.error.Error.{Error}
 use Rattle.archive_check.specs.declared.format.error.Error.TheVariants.{OutOfMemory, PositionTooLarge, LengthTooLarge}
 use Rattle.archive_types.specs.Causes.{own_cause}
 use Rattle.archive_types.specs.Copies.{each_bytes, small_in_bulk, array_in_bulk, behind_zeros, IsCopyRefused, IsSliceRefused, AreCopiesRefused, copies_from, copies_to}
-use Rattle.archive_types.specs.Words.CopiesWritten.{CopiesAll, WritesInBulk, SliceWritesInBulk, OwnerWritesInBulk}
+use Rattle.archive_types.specs.Words.BulkCopies.{CopiesAll, WritesInBulk, SliceWritesInBulk, OwnerWritesInBulk}
 use Rattle.archive_write.specs.Written.{GoesOn}
 use Rattle.archive_types.proofs.Planning.Causes.{explains_sooner}
 use Rattle.archive_types.proofs.Copying.Copies.{copy_fails}

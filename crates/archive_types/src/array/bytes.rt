@@ -1,7 +1,7 @@
 // Bytes in an array are read back as one.
 
 ghost use Rattle.archive_types.specs.Words.Seen.{IsPartOf};
-ghost use Rattle.archive_types.specs.Words.Sources.{ReadsAs};
+ghost use Rattle.archive_types.specs.Words.ReadBack.{ReadsAs};
 
 use super::owned::OwnedArray;
 use crate::traits::{Archive, ArchivePointee, Deserialize, Entries};

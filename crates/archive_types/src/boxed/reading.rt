@@ -6,7 +6,7 @@ ghost use Rattle.archive_check.specs.Value.{box};
 ghost use Rattle.archive_check.specs.Viewed.{Viewed};
 ghost use Rattle.archive_check.specs.Entries.{ReadsBack, RefusesReading};
 ghost use Rattle.archive_types.specs.Words.Seen.{IsPartOf};
-ghost use Rattle.archive_types.specs.Words.Sources.{ReadsAs};
+ghost use Rattle.archive_types.specs.Words.ReadBack.{ReadsAs};
 
 use super::ArchivedBox;
 use crate::traits::{Archive, ArchivePointee, Deserialize, Entries, PortablePointee};

@@ -11,14 +11,14 @@ ghost use Rattle.archive_types.specs.Causes.{HindersAt, IsRefused};
 ghost use Rattle.archive_types.specs.Members.Keyed.{box_keyed, each_keyed, text_keyed};
 ghost use Rattle.archive_num.specs.Offsets.{distance, IsTooFar};
 ghost use Rattle.archive_num.specs.OwnerBytes.{owner_bytes};
-ghost use Rattle.archive_types.specs.Words.CopiesWritten.{OwnedInBulk};
-ghost use Rattle.archive_types.specs.Words.Placed.{PointsTo, AtOnce};
+ghost use Rattle.archive_types.specs.Words.BulkCopies.{OwnerWritesInBulk};
+ghost use Rattle.archive_types.specs.Words.WrittenPointers.{PointsTo, AtOnce};
 ghost use Rattle.archive_types.specs.Members.Planned.{text_planned};
 ghost use Rattle.archive_types.specs.Members.PlannedOwners.{box_planned, one_planned, slice_planned};
 ghost use Rattle.archive_types.specs.Plans.{Serialized};
 ghost use Rattle.archive_types.specs.Runs.{each_keys, each_meaning};
 ghost use Rattle.archive_types.specs.Words.Seen.{IsPartOf};
-ghost use Rattle.archive_types.specs.Words.Sources.{Read, ReadsAs};
+ghost use Rattle.archive_types.specs.Words.ReadBack.{Read, ReadsAs};
 ghost use Rattle.archive_types.specs.Writing.{ZeroedPlace, Resolves, to_pointee};
 ghost use Rattle.archive_write.specs.Written.{GoesOn};
 ghost use Rattle.archive_types.specs.Outcomes.{ResolvesAs};
@@ -126,8 +126,9 @@ impl<S: Writer + ResolverAlloc, T: Serialize<S>> Serialize<S> for BoxSlice<T> {
             S.Keys serializer result }
         ensures too_long { 4294967295 < length self.now.items.items
             → AtOnce result LengthTooLarge S.Keys serializer }
-        ensures in_bulk { OwnedInBulk T.in_bulk S.position S.Keys serializer S.takes_memory
-            T.Archived.layout self.now.items.items result }
+        ensures in_bulk { OwnerWritesInBulk T.in_bulk T.Archived.layout self.now.items.items
+            (S.position serializer.old) (S.state serializer.old) (S.state serializer.new)
+            S.takes_memory result }
     {
         let pos = serialize_slice(self.items.as_slice(), serializer)?;
         let pos = position_of(pos)?;

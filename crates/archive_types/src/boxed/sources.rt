@@ -10,7 +10,7 @@ ghost use Rattle.archive_types.specs.Causes.{HindersAt, IsRefused};
 ghost use Rattle.archive_types.specs.Members.Keyed.{box_keyed};
 ghost use Rattle.archive_num.specs.Offsets.{distance, IsTooFar};
 ghost use Rattle.archive_num.specs.OwnerBytes.{owner_bytes};
-ghost use Rattle.archive_types.specs.Words.Placed.{IsTooFarFrom, PointsTo, IsNoPointer};
+ghost use Rattle.archive_types.specs.Words.WrittenPointers.{IsTooFarFrom, PointsTo, IsNoPointer};
 ghost use Rattle.archive_types.specs.Members.PlannedOwners.{one_planned, boxed_one_planned};
 ghost use Rattle.archive_types.specs.Plans.{Serialized};
 ghost use Rattle.archive_types.specs.Writing.{ZeroedPlace, Resolves, to_pointee, box_flat};

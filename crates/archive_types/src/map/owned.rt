@@ -15,7 +15,7 @@ ghost use Rattle.archive_types.specs.Members.PlannedOwners.{one_planned};
 ghost use Rattle.archive_types.specs.Outcomes.{ResolvesAs};
 ghost use Rattle.archive_types.specs.Runs.{each_keys, each_meaning};
 ghost use Rattle.archive_types.specs.SourceOutcomes.{Serializes};
-ghost use Rattle.archive_types.specs.Words.Placed.{AtOnce, PointsTo};
+ghost use Rattle.archive_types.specs.Words.WrittenPointers.{AtOnce, PointsTo};
 ghost use Rattle.archive_types.specs.Writing.{map_flat, ZeroedPlace};
 
 use super::sources::serialize_ordered;

@@ -7,7 +7,7 @@ ghost use Rattle.archive_check.specs.declared.format.error.Error.TheVariants.{Ou
 ghost use Rattle.archive_types.specs.MapPairs.{pair_meaning, pair_keys};
 ghost use Rattle.archive_types.specs.Runs.{each_meaning, each_keys};
 ghost use Rattle.archive_types.specs.Words.Seen.{IsPartOf, ReadsPart, RefusesPart};
-ghost use Rattle.archive_types.specs.Words.Sources.{ReadsAs};
+ghost use Rattle.archive_types.specs.Words.ReadBack.{ReadsAs};
 
 use super::ArchivedSortedMap;
 use super::sorted_keys::SortedKey;

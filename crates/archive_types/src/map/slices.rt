@@ -13,7 +13,7 @@ ghost use Rattle.archive_types.specs.Outcomes.{ResolvesAs};
 ghost use Rattle.archive_types.specs.Runs.{each_keys, each_meaning};
 ghost use Rattle.archive_types.specs.SourceOutcomes.{Serializes};
 ghost use Rattle.archive_types.specs.ValueOrder.{keys_ascend};
-ghost use Rattle.archive_types.specs.Words.Placed.{AtOnce, PointsTo};
+ghost use Rattle.archive_types.specs.Words.WrittenPointers.{AtOnce, PointsTo};
 ghost use Rattle.archive_types.specs.Writing.{map_flat, ZeroedPlace};
 
 use super::{ArchivedSortedMap, SortedKey, SortedMapResolver};

@@ -10,7 +10,7 @@ ghost use Rattle.archive_types.specs.MapPairs.{pair_keys, pair_meaning};
 ghost use Rattle.archive_types.specs.Outcomes.{ResolvesAs, SerializesAs, SerializesTo};
 ghost use Rattle.archive_types.specs.Runs.{each_keys, each_meaning};
 ghost use Rattle.archive_types.specs.ValueOrder.{keys_ascend};
-ghost use Rattle.archive_types.specs.Words.Placed.{AtOnce, IsTooFarFrom, PointsTo};
+ghost use Rattle.archive_types.specs.Words.WrittenPointers.{AtOnce, IsTooFarFrom, PointsTo};
 ghost use Rattle.archive_types.specs.Writing.{map_flat};
 
 use super::{ArchivedSortedMap, SortedKey};

@@ -10,11 +10,11 @@ ghost use Rattle.archive_check.specs.declared.format.error.Error.TheVariants.{Cy
 ghost use Rattle.archive_types.specs.Causes.{HindersAt, IsRefused};
 ghost use Rattle.archive_num.specs.Offsets.{distance, IsTooFar};
 ghost use Rattle.archive_num.specs.OwnerBytes.{owner_bytes};
-ghost use Rattle.archive_types.specs.Words.Placed.{IsTooFarFrom};
+ghost use Rattle.archive_types.specs.Words.WrittenPointers.{IsTooFarFrom};
 ghost use Rattle.archive_types.specs.Plans.{Serialized};
 ghost use Rattle.archive_types.specs.Members.Options.{option_keys};
 ghost use Rattle.archive_types.specs.Members.SharedLaws.{flavor_as, naming_of, weak_value, weak_count, weak_flat};
-ghost use Rattle.archive_types.specs.Words.SharedWriting.{AnswersPending, flavor_of_type, keys_under};
+ghost use Rattle.archive_types.specs.Words.SharedPointers.{AnswersPending, flavor_of_type, keys_under};
 ghost use Rattle.archive_types.specs.Writing.{Resolves, to_shared, shared_flat};
 ghost use Rattle.archive_write.specs.Written.{GoesOn};
 ghost use Rattle.archive_types.specs.Outcomes.{ResolvesAs, SerializesTo, SerializesAs};

@@ -2,11 +2,10 @@
 
 ghost use Rattle.std.specs.Prelude.{◌≡◌, ◌+◌, ◌*◌, ◌^◌, ◌++◌, ◌<◌, ◌≤◌, IfOk, OnOk, IfErr, IsOk, IsErrOf, IsTrue, IsFalse, length, take, Some};
 ghost use Rattle.archive_check.specs.WriterState.{KeepsKeys};
-ghost use Rattle.archive_types.specs.Copies.{each_bytes, copies_from};
-ghost use Rattle.archive_types.specs.Words.KindsWritten.{OwnsNothingAs, EachCopiedAs};
+ghost use Rattle.archive_types.specs.Copies.{each_bytes, copies_from, EachCopied, IsCopyRefused, IsWriteRefused, OwnsNothing, TakesCopy, copies_to};
 ghost use Rattle.archive_write.specs.Written.{GoesOn};
-ghost use Rattle.archive_types.specs.Words.CopiesWritten.{AllCopied, PiecesRefused, CopyRefused, CopiesRefused, TakesCopies, AddedAligned, CopiesInBulk};
-ghost use Rattle.archive_types.specs.Words.Placed.{BytesAdded, WriteRefused};
+ghost use Rattle.archive_types.specs.Words.BulkCopies.{AddedAligned, CopiesInBulk};
+ghost use Rattle.archive_types.specs.Words.WrittenPointers.{BytesAdded, WriteRefused};
 ghost use Rattle.archive_types.specs.Outcomes.{WritesElements, CopiesElements};
 
 use crate::ser::run_fits;
@@ -37,7 +36,8 @@ fn write_piece<W: Writer, T: Copied>(
 ) -> Result<(), Error>
     requires sized { length bytes.old ≡ length values.now * T.CopiedAs.layout.size }
     ensures copied { OnOk result (BytesAdded (each_bytes T.copied_bytes values.now) W.Keys writer) }
-    ensures read { EachCopiedAs T.CopiedAs.Portable T.copied_meaning T.copied_bytes values.now }
+    ensures read { EachCopied T.CopiedAs.definitions T.CopiedAs.shape T.CopiedAs.layout.size
+        T.copied_meaning T.copied_bytes values.now }
     ensures goes_on { GoesOn (W.state writer.old) (W.state writer.new) }
     ensures refused { IfErr result (WriteRefused (length values.now * T.CopiedAs.layout.size)
         W.position W.Keys writer) }
@@ -81,10 +81,10 @@ fn copy_by<W: Writer, T: Copied, const N: usize>(
     requires small { together * size ≤ N }
     requires few { N ≤ 1024 }
     ensures copied { OnOk result (BytesAdded (each_bytes T.copied_bytes values.now) W.Keys writer) }
-    ensures read { OnOk result (AllCopied T.CopiedAs.Portable size T.copied_meaning T.copied_bytes
-        values.now) }
-    ensures refused { IfErr result (PiecesRefused W.position W.Keys writer
-        (length values.now * size)) }
+    ensures read { OnOk result (EachCopied T.CopiedAs.definitions T.CopiedAs.shape size
+        T.copied_meaning T.copied_bytes values.now) }
+    ensures refused { IfErr result (IsWriteRefused (W.position writer.old
+        + length values.now * size) (W.state writer.old) (W.state writer.new)) }
     ensures memory { IsErrOf result Error.OutOfMemory → IsTrue W.takes_memory }
     ensures goes_on { GoesOn (W.state writer.old) (W.state writer.new) }
     ensures keys { KeepsKeys (W.state writer.old).states (W.state writer.new).states }
@@ -107,7 +107,8 @@ fn write_block<W: Writer, T: Copied>(values: &[T], bytes: &mut [u8], writer: &mu
     requires sized { length bytes.old ≡ length values.now * T.CopiedAs.layout.size }
     ensures copied { IsTrue result → BytesAdded (each_bytes T.copied_bytes values.now) W.Keys
         writer }
-    ensures read { EachCopiedAs T.CopiedAs.Portable T.copied_meaning T.copied_bytes values.now }
+    ensures read { EachCopied T.CopiedAs.definitions T.CopiedAs.shape T.CopiedAs.layout.size
+        T.copied_meaning T.copied_bytes values.now }
     ensures goes_on { GoesOn (W.state writer.old) (W.state writer.new) }
     ensures keys { KeepsKeys (W.state writer.old).states (W.state writer.new).states }
     ensures untouched { IsFalse result → W.state writer.new ≡ W.state writer.old }
@@ -124,8 +125,8 @@ fn copy_blocks<W: Writer, T: Copied, const N: usize>(values: &[T], writer: &mut 
     requires few { N ≤ 16384 }
     ensures within { result ≤ length values.now }
     ensures copied { BytesAdded (each_bytes T.copied_bytes (take result values.now)) W.Keys writer }
-    ensures read { EachCopiedAs T.CopiedAs.Portable T.copied_meaning T.copied_bytes
-        (take result values.now) }
+    ensures read { EachCopied T.CopiedAs.definitions T.CopiedAs.shape T.CopiedAs.layout.size
+        T.copied_meaning T.copied_bytes (take result values.now) }
     ensures goes_on { GoesOn (W.state writer.old) (W.state writer.new) }
     ensures keys { KeepsKeys (W.state writer.old).states (W.state writer.new).states }
 {
@@ -152,8 +153,8 @@ fn copy_blocks<W: Writer, T: Copied, const N: usize>(values: &[T], writer: &mut 
 fn copy_at_once<W: Writer, T: Copied>(values: &[T], writer: &mut W) -> usize
     ensures within { result ≤ length values.now }
     ensures copied { BytesAdded (each_bytes T.copied_bytes (take result values.now)) W.Keys writer }
-    ensures read { EachCopiedAs T.CopiedAs.Portable T.copied_meaning T.copied_bytes
-        (take result values.now) }
+    ensures read { EachCopied T.CopiedAs.definitions T.CopiedAs.shape T.CopiedAs.layout.size
+        T.copied_meaning T.copied_bytes (take result values.now) }
     ensures goes_on { GoesOn (W.state writer.old) (W.state writer.new) }
     ensures keys { KeepsKeys (W.state writer.old).states (W.state writer.new).states }
 {
@@ -168,8 +169,8 @@ fn with_blocks<W: Writer, T: Copied>(mut writer: W, values: &[T]) -> (W, usize)
     ensures within { result.1 ≤ length values.now }
     ensures copied { (W.state result.0).bytes ≡ (W.state writer).bytes
         ++ each_bytes T.copied_bytes (take result.1 values.now) }
-    ensures read { EachCopiedAs T.CopiedAs.Portable T.copied_meaning T.copied_bytes
-        (take result.1 values.now) }
+    ensures read { EachCopied T.CopiedAs.definitions T.CopiedAs.shape T.CopiedAs.layout.size
+        T.copied_meaning T.copied_bytes (take result.1 values.now) }
     ensures goes_on { GoesOn (W.state writer) (W.state result.0) }
     ensures keys { KeepsKeys (W.state writer).states (W.state result.0).states }
 {
@@ -188,8 +189,8 @@ fn copy_first<W: Writer, T: Copied>(
     requires counted { length values.now * size < 2 ^ 64 }
     ensures within { result ≤ length values.now }
     ensures copied { BytesAdded (each_bytes T.copied_bytes (take result values.now)) W.Keys writer }
-    ensures read { EachCopiedAs T.CopiedAs.Portable T.copied_meaning T.copied_bytes
-        (take result values.now) }
+    ensures read { EachCopied T.CopiedAs.definitions T.CopiedAs.shape T.CopiedAs.layout.size
+        T.copied_meaning T.copied_bytes (take result values.now) }
     ensures goes_on { GoesOn (W.state writer.old) (W.state writer.new) }
     ensures keys { KeepsKeys (W.state writer.old).states (W.state writer.new).states }
 {
@@ -212,10 +213,10 @@ fn copy_long<W: Writer, T: Copied>(
     requires small { together * size ≤ 1024 }
     requires counted { length values.now * size < 2 ^ 64 }
     ensures copied { OnOk result (BytesAdded (each_bytes T.copied_bytes values.now) W.Keys writer) }
-    ensures read { OnOk result (AllCopied T.CopiedAs.Portable size T.copied_meaning T.copied_bytes
-        values.now) }
-    ensures refused { IfErr result (PiecesRefused W.position W.Keys writer
-        (length values.now * size)) }
+    ensures read { OnOk result (EachCopied T.CopiedAs.definitions T.CopiedAs.shape size
+        T.copied_meaning T.copied_bytes values.now) }
+    ensures refused { IfErr result (IsWriteRefused (W.position writer.old
+        + length values.now * size) (W.state writer.old) (W.state writer.new)) }
     ensures memory { IsErrOf result Error.OutOfMemory → IsTrue W.takes_memory }
     ensures goes_on { GoesOn (W.state writer.old) (W.state writer.new) }
     ensures keys { KeepsKeys (W.state writer.old).states (W.state writer.new).states }
@@ -237,10 +238,10 @@ fn copy_pieces<W: Writer, T: Copied>(
     requires small { together * size ≤ 1024 }
     requires counted { length values.now * size < 2 ^ 64 }
     ensures copied { OnOk result (BytesAdded (each_bytes T.copied_bytes values.now) W.Keys writer) }
-    ensures read { OnOk result (AllCopied T.CopiedAs.Portable size T.copied_meaning T.copied_bytes
-        values.now) }
-    ensures refused { IfErr result (PiecesRefused W.position W.Keys writer
-        (length values.now * size)) }
+    ensures read { OnOk result (EachCopied T.CopiedAs.definitions T.CopiedAs.shape size
+        T.copied_meaning T.copied_bytes values.now) }
+    ensures refused { IfErr result (IsWriteRefused (W.position writer.old
+        + length values.now * size) (W.state writer.old) (W.state writer.new)) }
     ensures memory { IsErrOf result Error.OutOfMemory → IsTrue W.takes_memory }
     ensures goes_on { GoesOn (W.state writer.old) (W.state writer.new) }
     ensures keys { KeepsKeys (W.state writer.old).states (W.state writer.new).states }
@@ -263,11 +264,11 @@ fn copy_aligned<W: Writer, T: Copied>(
     requires joined { 0 < together }
     requires small { together * size ≤ 1024 }
     ensures copied { OnOk result (BytesAdded (each_bytes T.copied_bytes values.now) W.Keys writer) }
-    ensures read { OnOk result (AllCopied T.CopiedAs.Portable size T.copied_meaning T.copied_bytes
-        values.now) }
+    ensures read { OnOk result (EachCopied T.CopiedAs.definitions T.CopiedAs.shape size
+        T.copied_meaning T.copied_bytes values.now) }
     ensures position { IfOk result (λ p. p ≡ W.position writer.old) }
-    ensures refused { IfErr result (CopyRefused W.position W.Keys writer
-        (length values.now * size)) }
+    ensures refused { IfErr result (IsCopyRefused (W.position writer.old + length values.now * size)
+        (W.state writer.old) (W.state writer.new)) }
     ensures memory { IsErrOf result Error.OutOfMemory → IsTrue W.takes_memory }
     ensures goes_on { GoesOn (W.state writer.old) (W.state writer.new) }
     ensures keys { KeepsKeys (W.state writer.old).states (W.state writer.new).states }
@@ -289,23 +290,24 @@ fn copy_together<S: Writer + Keys, T: Copied>(
     serializer: &mut S,
 ) -> Result<usize, Error>
     requires same { size ≡ T.CopiedAs.layout.size }
-    requires owns_nothing { (v : T) → OwnsNothingAs T.CopiedAs.Portable (T.copied_keys v)
-        (T.copied_meaning v) }
+    requires owns_nothing { (v : T) → OwnsNothing T.CopiedAs.definitions T.CopiedAs.shape
+        (T.copied_keys v) (T.copied_meaning v) }
     requires joined { 0 < together }
     requires small { together * size ≤ 1024 }
     ensures outcome { WritesElements T.copied_keys T.copied_meaning T.CopiedAs.Portable values.now
         S.Keys serializer result }
     ensures copied { OnOk result (AddedAligned T.CopiedAs.layout
         (each_bytes T.copied_bytes values.now) S.Keys serializer) }
-    ensures read { OnOk result (AllCopied T.CopiedAs.Portable size T.copied_meaning T.copied_bytes
-        values.now) }
+    ensures read { OnOk result (EachCopied T.CopiedAs.definitions T.CopiedAs.shape size
+        T.copied_meaning T.copied_bytes values.now) }
     ensures position { IfOk result (λ p. p ≡ copies_from T.CopiedAs.layout
         (S.position serializer.old)) }
-    ensures cause { IfErr result (CopiesRefused S.position S.Keys serializer T.CopiedAs.layout
-        (length values.now)) }
+    ensures cause { IfErr result (IsCopyRefused (copies_to T.CopiedAs.layout (length values.now)
+        (S.position serializer.old)) (S.state serializer.old) (S.state serializer.new)) }
     ensures memory { IsErrOf result Error.OutOfMemory → IsTrue S.takes_memory }
-    ensures succeeds { TakesCopies S.position S.Keys serializer S.takes_memory T.CopiedAs.layout
-        (length values.now) → IsOk result }
+    ensures succeeds { TakesCopy (IsTrue S.takes_memory)
+        (copies_to T.CopiedAs.layout (length values.now) (S.position serializer.old))
+        (S.state serializer.old) (S.state serializer.new) → IsOk result }
     ensures keys { OnOk result (KeepsKeys (S.state serializer.old).states
         (S.state serializer.new).states) }
 {
@@ -331,11 +333,12 @@ pub fn copy_slice<S: Writer + Keys, T: CopiedSource>(
         (each_bytes T.copied_bytes values.now) S.Keys serializer) }
     ensures position { IfOk result (λ p. p ≡ copies_from T.Archived.layout
         (S.position serializer.old)) }
-    ensures cause { IfErr result (CopiesRefused S.position S.Keys serializer T.Archived.layout
-        (length values.now)) }
+    ensures cause { IfErr result (IsCopyRefused (copies_to T.Archived.layout (length values.now)
+        (S.position serializer.old)) (S.state serializer.old) (S.state serializer.new)) }
     ensures memory { IsErrOf result Error.OutOfMemory → IsTrue S.takes_memory }
-    ensures succeeds { TakesCopies S.position S.Keys serializer S.takes_memory T.Archived.layout
-        (length values.now) → IsOk result }
+    ensures succeeds { TakesCopy (IsTrue S.takes_memory)
+        (copies_to T.Archived.layout (length values.now) (S.position serializer.old))
+        (S.state serializer.old) (S.state serializer.new) → IsOk result }
 {
     let size = T::copied_size();
     copy_together(values, size, 1, serializer)
@@ -378,11 +381,12 @@ pub fn copy_arrays<S: Writer + Keys, T: CopiedSource, const N: usize>(
     ensures position { IfOk result (λ p. p ≡ copies_from T.Archived.layout
         (S.position serializer.old)) }
     ensures goes_on { GoesOn (S.state serializer.old) (S.state serializer.new) }
-    ensures cause { IfErr result (CopiesRefused S.position S.Keys serializer T.Archived.layout
-        (length arrays.now * N)) }
+    ensures cause { IfErr result (IsCopyRefused (copies_to T.Archived.layout (length arrays.now * N)
+        (S.position serializer.old)) (S.state serializer.old) (S.state serializer.new)) }
     ensures memory { IsErrOf result Error.OutOfMemory → IsTrue S.takes_memory }
-    ensures succeeds { TakesCopies S.position S.Keys serializer S.takes_memory T.Archived.layout
-        (length arrays.now * N) → IsOk result }
+    ensures succeeds { TakesCopy (IsTrue S.takes_memory)
+        (copies_to T.Archived.layout (length arrays.now * N) (S.position serializer.old))
+        (S.state serializer.old) (S.state serializer.new) → IsOk result }
 {
     copy_slice(arrays.as_flattened(), serializer)
 }

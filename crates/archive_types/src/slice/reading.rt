@@ -10,7 +10,7 @@ ghost use Rattle.archive_types.specs.ElementsRead.{ReadsEach, RefusesEach};
 ghost use Rattle.archive_types.specs.FirstRead.{AreFirstRead};
 ghost use Rattle.archive_types.specs.Runs.{each_meaning, each_keys};
 ghost use Rattle.archive_types.specs.Words.Seen.{IsPartOf};
-ghost use Rattle.archive_types.specs.Words.Sources.{ReadsAs};
+ghost use Rattle.archive_types.specs.Words.ReadBack.{ReadsAs};
 ghost use Rattle.archive_types.specs.Views.{AreViewed};
 
 use super::ArchivedSlice;

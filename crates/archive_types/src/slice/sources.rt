@@ -6,8 +6,8 @@ ghost use Rattle.archive_check.specs.Value.{list};
 ghost use Rattle.archive_check.specs.declared.format.error.Error.TheVariants.{LengthTooLarge};
 ghost use Rattle.archive_types.specs.Causes.{IsRegionRefused};
 ghost use Rattle.archive_types.specs.Members.Keyed.{each_keyed};
-ghost use Rattle.archive_types.specs.Words.CopiesWritten.{SliceInBulk};
-ghost use Rattle.archive_types.specs.Words.Placed.{AtOnce};
+ghost use Rattle.archive_types.specs.Words.BulkCopies.{SliceWritesInBulk};
+ghost use Rattle.archive_types.specs.Words.WrittenPointers.{AtOnce};
 ghost use Rattle.archive_types.specs.Members.PlannedOwners.{is_long, slice_planned};
 ghost use Rattle.archive_types.specs.Plans.{SerializedRegion};
 ghost use Rattle.archive_types.specs.Runs.{each_keys, each_meaning, each_flat, EachBelongs, SerializedRun, IsRunRefused};
@@ -93,8 +93,9 @@ pub(crate) fn serialize_slice<S: Writer + ResolverAlloc, T: Serialize<S>>(
     ensures held { OnOk result (length values.now ≤ 4294967295) }
     ensures too_long { 4294967295 < length values.now
         → AtOnce result LengthTooLarge S.Keys serializer }
-    ensures in_bulk { SliceInBulk T.in_bulk S.position S.Keys serializer S.takes_memory
-        T.Archived.layout values.now result }
+    ensures in_bulk { SliceWritesInBulk T.in_bulk T.Archived.layout values.now
+        (S.position serializer.old) (S.state serializer.old) (S.state serializer.new) S.takes_memory
+        result }
 {
     if values.len() > u32::MAX as usize {
         return Err(Error::LengthTooLarge);
@@ -144,8 +145,9 @@ impl<'a, S: Writer + ResolverAlloc, T: Serialize<S>> SerializeUnsized<S> for Sli
         ensures held { OnOk result (length self.now.slice.now ≤ 4294967295) }
         ensures too_long { 4294967295 < length self.now.slice.now
             → AtOnce result LengthTooLarge S.Keys serializer }
-        ensures in_bulk { SliceInBulk T.in_bulk S.position S.Keys serializer S.takes_memory
-            T.Archived.layout self.now.slice.now result }
+        ensures in_bulk { SliceWritesInBulk T.in_bulk T.Archived.layout self.now.slice.now
+            (S.position serializer.old) (S.state serializer.old) (S.state serializer.new)
+            S.takes_memory result }
     {
         serialize_slice(self.slice, serializer)
     }

@@ -4,7 +4,6 @@ ghost use Rattle.archive_check.specs.Denotes.{Naming};
 ghost use Rattle.std.specs.Prelude.{◌≡◌, ◌*◌, ◌≤◌, ℕ, List, length, true, false};
 ghost use Rattle.archive_check.specs.Value.{Value};
 ghost use Rattle.archive_types.specs.Copies.{each_bytes, IsCopied, EachCopied, OwnsNothing};
-ghost use Rattle.archive_types.specs.Words.KindsWritten.{OwnsNothingAs, IsCopiedAs, EachCopiedAs};
 
 use super::{Archive, Portable};
 use std::marker::PhantomData;
@@ -68,16 +67,16 @@ pub trait Copied {
     fn copied_size() -> usize
         ensures size { result ≡ Self.CopiedAs.layout.size }
         ensures small { result ≤ 1024 }
-        ensures owns_nothing { (v : Self) → OwnsNothingAs Self.CopiedAs.Portable (copied_keys v)
-            (copied_meaning v) };
+        ensures owns_nothing { (v : Self) → OwnsNothing Self.CopiedAs.definitions
+            Self.CopiedAs.shape (copied_keys v) (copied_meaning v) };
 
     /// Writes the value's bytes over `bytes`. The caller must ensure that there are `copied_size`
     /// of them.
     fn copy_one(&self, bytes: &mut [u8])
         requires sized { length bytes.old ≡ Self.CopiedAs.layout.size }
         ensures copied { bytes.new ≡ copied_bytes self.now }
-        ensures read { IsCopiedAs Self.CopiedAs.Portable (copied_meaning self.now)
-            (copied_bytes self.now) };
+        ensures read { IsCopied Self.CopiedAs.definitions Self.CopiedAs.shape
+            Self.CopiedAs.layout.size (copied_meaning self.now) (copied_bytes self.now) };
 
     /// Writes the bytes of the values, one after another, over `bytes`. The caller must ensure that
     /// these have the size of the values together.
@@ -85,8 +84,8 @@ pub trait Copied {
     final fn copy_into(values: &[Self], bytes: &mut [u8])
         requires sized { length bytes.old ≡ length values.now * Self.CopiedAs.layout.size }
         ensures copied { bytes.new ≡ each_bytes Self.copied_bytes values.now }
-        ensures read { EachCopiedAs Self.CopiedAs.Portable Self.copied_meaning Self.copied_bytes
-            values.now }
+        ensures read { EachCopied Self.CopiedAs.definitions Self.CopiedAs.shape
+            Self.CopiedAs.layout.size Self.copied_meaning Self.copied_bytes values.now }
         ensures same_length { length bytes.new ≡ length bytes.old }
     {
         let size = Self::copied_size();

@@ -1,7 +1,7 @@
 // Tuples are read back: from their parts, one after another.
 
 ghost use Rattle.archive_types.specs.Words.Seen.{IsPartOf};
-ghost use Rattle.archive_types.specs.Words.Sources.{ReadsAs};
+ghost use Rattle.archive_types.specs.Words.ReadBack.{ReadsAs};
 
 use crate::parts::{DeserializeParts, FromParts};
 use crate::record::deserialize_record;

@@ -3,10 +3,10 @@
 ghost use Rattle.std.specs.Prelude.{◌≡◌, ◌<◌, ◌≤◌, IfOk, OnOk, IfErr, IsOk, IsErrOf, IsTrue, length};
 ghost use Rattle.archive_check.specs.Shape.{vec as vec_shape};
 ghost use Rattle.archive_check.specs.declared.format.error.Error.TheVariants.{LengthTooLarge};
-ghost use Rattle.archive_types.specs.Copies.{each_bytes, copies_from};
+ghost use Rattle.archive_types.specs.Copies.{each_bytes, copies_from, AreCopiesRefused, TakesCopy, copies_to};
 ghost use Rattle.archive_write.specs.Written.{GoesOn};
-ghost use Rattle.archive_types.specs.Words.CopiesWritten.{AddedAligned, ElementsRefused, CopiesSucceed};
-ghost use Rattle.archive_types.specs.Words.Placed.{AtOnce};
+ghost use Rattle.archive_types.specs.Words.BulkCopies.{AddedAligned};
+ghost use Rattle.archive_types.specs.Words.WrittenPointers.{AtOnce};
 ghost use Rattle.archive_types.specs.Runs.{each_keys, each_meaning};
 ghost use Rattle.archive_types.specs.Writing.{vec_flat};
 ghost use Rattle.archive_check.specs.Value.{list};
@@ -44,13 +44,15 @@ impl<T: Portable> ArchivedVec<T> {
         ensures position { IfOk result (λ r. r ≡ copies_from T.layout (S.position serializer.old)) }
         ensures held { OnOk result (length value.now ≤ 4294967295) }
         ensures goes_on { GoesOn (S.state serializer.old) (S.state serializer.new) }
-        ensures refused { IfErr result (ElementsRefused S.position S.Keys serializer T.layout
-            (length value.now)) }
+        ensures refused { IfErr result (AreCopiesRefused T.layout (length value.now)
+            (S.position serializer.old) (S.state serializer.old) (S.state serializer.new)) }
         ensures too_long { 4294967295 < length value.now
             → AtOnce result LengthTooLarge S.Keys serializer }
         ensures memory { IsErrOf result Error.OutOfMemory → IsTrue S.takes_memory }
-        ensures succeeds { CopiesSucceed S.position S.Keys serializer S.takes_memory T.layout
-            (length value.now) result }
+        ensures succeeds { TakesCopy (IsTrue S.takes_memory)
+            (copies_to T.layout (length value.now) (S.position serializer.old))
+            (S.state serializer.old) (S.state serializer.new) → length value.now ≤ 4294967295
+            → copies_from T.layout (S.position serializer.old) ≤ 4294967295 → IsOk result }
     {
         if value.len() > u32::MAX as usize {
             return Err(Error::LengthTooLarge);

@@ -80,8 +80,8 @@ impl<T: Portable> ArchivedVec<T> {
         ensures stored { IfOk result (ItemsStored I.next_gives iter U.Archive T.Portable S.Keys
             serializer) }
         ensures goes_on { GoesOn (S.state serializer.old) (S.state serializer.new) }
-        ensures refused { IfErr result (CollectionRefused I.next_gives iter U.Archive T.Portable S.Keys
-            serializer) }
+        ensures refused { IfErr result (CollectionRefused I.next_gives iter U.Archive T.Portable
+            S.Keys serializer) }
     {
         let alloc = serializer.resolver_alloc();
         let pos = serializer.align_for::<T>()?;

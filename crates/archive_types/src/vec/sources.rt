@@ -9,8 +9,8 @@ ghost use Rattle.archive_types.specs.Causes.{HindersAt, IsRefused};
 ghost use Rattle.archive_types.specs.Members.Keyed.{each_keyed};
 ghost use Rattle.archive_num.specs.Offsets.{distance, IsTooFar};
 ghost use Rattle.archive_num.specs.OwnerBytes.{owner_bytes};
-ghost use Rattle.archive_types.specs.Words.CopiesWritten.{OwnedInBulk};
-ghost use Rattle.archive_types.specs.Words.Placed.{IsTooFarFrom, PointsTo, AtOnce};
+ghost use Rattle.archive_types.specs.Words.BulkCopies.{OwnerWritesInBulk};
+ghost use Rattle.archive_types.specs.Words.WrittenPointers.{IsTooFarFrom, PointsTo, AtOnce};
 ghost use Rattle.archive_types.specs.Members.PlannedOwners.{one_planned, vec_planned, slice_planned};
 ghost use Rattle.archive_types.specs.Plans.{Serialized};
 ghost use Rattle.archive_types.specs.Runs.{each_keys, each_meaning};
@@ -81,8 +81,8 @@ impl<T: Portable> ArchivedVec<T> {
             (λ _. length value.now ≤ 4294967295) S.Keys serializer result }
         ensures too_long { 4294967295 < length value.now
             → AtOnce result LengthTooLarge S.Keys serializer }
-        ensures in_bulk { OwnedInBulk U.in_bulk S.position S.Keys serializer S.takes_memory T.layout
-            value.now result }
+        ensures in_bulk { OwnerWritesInBulk U.in_bulk T.layout value.now (S.position serializer.old)
+            (S.state serializer.old) (S.state serializer.new) S.takes_memory result }
     {
         let pos = serialize_slice(value, serializer)?;
         let pos = position_of(pos)?;
@@ -194,8 +194,9 @@ impl<S: Writer + ResolverAlloc, T: Serialize<S>> Serialize<S> for Vec<T> {
             S.Keys serializer result }
         ensures too_long { 4294967295 < length self.now.items
             → AtOnce result LengthTooLarge S.Keys serializer }
-        ensures in_bulk { OwnedInBulk T.in_bulk S.position S.Keys serializer S.takes_memory
-            T.Archived.layout self.now.items result }
+        ensures in_bulk { OwnerWritesInBulk T.in_bulk T.Archived.layout self.now.items
+            (S.position serializer.old) (S.state serializer.old) (S.state serializer.new)
+            S.takes_memory result }
     {
         ArchivedVec::<T::Archived>::serialize_from_slice(self.as_slice(), serializer)
     }

@@ -2,7 +2,7 @@
 
 ghost use Rattle.std.specs.Prelude.{◌≡◌, Some};
 ghost use Rattle.archive_core.specs.PartsLayout.{part_at, definitions_at};
-ghost use Rattle.archive_core.specs.SealsWritten.{IsSealOf};
+ghost use Rattle.archive_core.specs.SealOutcomes.{IsSealOf};
 
 use crate::assertions::{assert_holds, assert_same};
 use archive_core::api::access_mut;

@@ -9,7 +9,7 @@ ghost use Rattle.archive_core.specs.SelfCheck.Laws.{by_schema};
 ghost use Rattle.archive_core.specs.VariantsLayout.{is_recursive_choice};
 ghost use Rattle.archive_core.specs.Viewed.{Viewed};
 ghost use Rattle.archive_core.specs.Seen.{RefusesPart};
-ghost use Rattle.archive_core.specs.Sources.{ReadsAs};
+ghost use Rattle.archive_core.specs.ReadBack.{ReadsAs};
 ghost use Rattle.tests_whole.specs.LoopShape.{loop_name, loop_shape, loop_choice, loop_definitions, loop_layout, loop_has_layout, loop_variants, knows_variants};
 
 use crate::assertions::{assert_holds, assert_same};

@@ -41,8 +41,8 @@ impl<T: Archive> Archive for WeakShared<T> {
 
     ghost flat = { λ w r. weak_flat rc_flavor T.Archived.pointee 0 r };
 
-    ghost keys = { λ w. option_keys (λ s. rc_keys s.key T.Archived.pointee 0 (T.meaning s.value.value)
-        (T.keys s.value.value)) w.value };
+    ghost keys = { λ w. option_keys (λ s. rc_keys s.key T.Archived.pointee 0
+        (T.meaning s.value.value) (T.keys s.value.value)) w.value };
 
     ghost belongs = { λ _ _. ⊤ };
 
@@ -119,8 +119,8 @@ impl<T: Archive> ArchiveUnsized for WeakShared<T> {
 
     ghost meaning = { λ w. weak_value (λ s. shared_value s.key) w.value };
 
-    ghost keys = { λ w. option_keys (λ s. rc_keys s.key T.Archived.pointee 0 (T.meaning s.value.value)
-        (T.keys s.value.value)) w.value };
+    ghost keys = { λ w. option_keys (λ s. rc_keys s.key T.Archived.pointee 0
+        (T.meaning s.value.value) (T.keys s.value.value)) w.value };
 
     ghost keyed = { λ w. weak_keyed (λ s. rc_keys s.key T.Archived.pointee 0
         (T.meaning s.value.value) (T.keys s.value.value)) (λ s. shared_value s.key)

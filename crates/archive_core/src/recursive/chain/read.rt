@@ -9,7 +9,7 @@ ghost use Rattle.archive_check.specs.Value.{Value};
 ghost use Rattle.archive_check.specs.Viewed.{Viewed};
 ghost use Rattle.archive_core.specs.recursive.Chains.{HeadIsRead};
 ghost use Rattle.archive_types.specs.Words.Seen.{IsPartOf, RefusesPart};
-ghost use Rattle.archive_types.specs.Words.Sources.{Read};
+ghost use Rattle.archive_types.specs.Words.ReadBack.{Read};
 
 use crate::recursive::before::before_box;
 use archive_check::format::error::Error;

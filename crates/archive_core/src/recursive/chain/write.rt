@@ -64,7 +64,8 @@ fn list_for_more<X: Drop, A: Allocator + Copy>(
     list: Vec<X, A>,
     full: &mut Vec<Vec<X, A>, A>,
 ) -> Result<Vec<X, A>, AllocError>
-    ensures { IfOk result (λ it. in_lists full.new.items it.items ≡ in_lists full.old.items list.items) }
+    ensures { IfOk result (λ it. in_lists full.new.items it.items
+        ≡ in_lists full.old.items list.items) }
 {
     if list.len() < BOXES {
         return Ok(list);

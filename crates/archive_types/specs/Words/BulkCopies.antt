@@ -1,43 +1,14 @@
--- What is said of values that are copied to a writer. `Both` is a parameter as a clause names it: what it was as the call began, and what it is at the
+-- What is said of values that are copied to a writer in bulk. `Both` is a parameter as a clause names it: what it was as the call began, and what it is at the
 -- return.
 use denote.Triple.Both.{Both}
 use denote.Ref.{MutBor}
-use Rattle.std.specs.Prelude.{◌≡◌, ℕ, ◌+◌, ◌*◌, ◌^◌, ◌<◌, ◌≤◌, List, length, Bool, IsTrue, Option, IfSome, IsSome, Result, IsOk, OnOk, IfOk, IfErr, IsErrOf}
-use Rattle.archive_check.specs.Words.Formats.{FormatOf}
+use Rattle.std.specs.Prelude.{◌≡◌, ℕ, ◌*◌, ◌^◌, ◌<◌, ◌≤◌, List, length, Bool, IsTrue, Option, IfSome, IsSome, Result, IsOk, OnOk, IfOk, IfErr, IsErrOf}
 use Rattle.archive_check.specs.Layout.{Layout}
-use Rattle.archive_check.specs.Value.{Value}
 use Rattle.archive_check.specs.WriterState.{WriterState}
 use Rattle.archive_check.specs.declared.format.error.Error.{Error}
 use Rattle.archive_check.specs.declared.format.error.Error.TheVariants.{OutOfMemory}
 use Rattle.archive_check.specs.declared.format.traits.Keys as Keys
-use Rattle.archive_types.specs.Copies.{each_bytes, EachCopied, copies_from, copies_to, behind_zeros, IsWriteRefused, IsCopyRefused, IsSliceRefused, AreCopiesRefused, TakesCopy}
-
--- The bytes of each of the values read as it, wherever they stand.
-abbrev pub AllCopied : {A M : Type 0} → FormatOf M → ℕ → (A → Value) → (A → List ℕ) → List A → Type 0
-AllCopied f size meaning bytes xs = EachCopied f.definitions f.shape size meaning bytes xs
-
-module _ {S : Type 0} (position : S → ℕ) (k : Keys.Ghosts S) (w : Both (MutBor S) (MutBor S)) where
-  -- Why n bytes weren't written; why a copy of n bytes was refused.
-  abbrev pub PiecesRefused : ℕ → Error → Type 0
-  PiecesRefused n = IsWriteRefused (position w.entry.now + n) (k.state w.entry.now) (k.state w.exit.now)
-
-  abbrev pub CopyRefused : ℕ → Error → Type 0
-  CopyRefused n = IsCopyRefused (position w.entry.now + n) (k.state w.entry.now) (k.state w.exit.now)
-
-  -- Why a copy of n values was refused, behind zeros up to their alignment; of a vector's elements.
-  abbrev pub CopiesRefused : Layout → ℕ → Error → Type 0
-  CopiesRefused L n = IsCopyRefused (copies_to L n (position w.entry.now)) (k.state w.entry.now) (k.state w.exit.now)
-
-  abbrev pub ElementsRefused : Layout → ℕ → Error → Type 0
-  ElementsRefused L n = AreCopiesRefused L n (position w.entry.now) (k.state w.entry.now) (k.state w.exit.now)
-
-  -- Nothing refuses it.
-  abbrev pub TakesCopies : Bool → Layout → ℕ → Type 0
-  TakesCopies takes_memory L n = TakesCopy (IsTrue takes_memory) (copies_to L n (position w.entry.now)) (k.state w.entry.now) (k.state w.exit.now)
-
-  -- So a vector of them succeeds, where a pointer can say their number and their position.
-  abbrev pub CopiesSucceed : Bool → Layout → ℕ → {R : Type 0} → Result R Error → Type 0
-  CopiesSucceed takes_memory L n result = TakesCopies takes_memory L n → n ≤ 4294967295 → copies_from L (position w.entry.now) ≤ 4294967295 → IsOk result
+use Rattle.archive_types.specs.Copies.{each_bytes, copies_from, copies_to, behind_zeros, IsSliceRefused, AreCopiesRefused, TakesCopy}
 
 -- Zeros came up to the values' alignment, and then these bytes.
 abbrev pub AddedAligned : {S : Type 0} → Layout → List ℕ → Keys.Ghosts S → Both (MutBor S) (MutBor S) → Type 0
@@ -74,11 +45,3 @@ abbrev pub OwnerWritesInBulk : {T : Type 0} → Option (T → List ℕ) → Layo
 OwnerWritesInBulk in_bulk L xs p old new takes_memory result = IfSome in_bulk (λ bytes. L.size ≤ 1024
     → WritesInBulk L (each_bytes bytes xs) (length xs) p old new takes_memory (AreCopiesRefused L (length xs) p old new)
     ((length xs ≤ 4294967295) × (copies_from L p ≤ 4294967295)) result)
-
-module _ {T S : Type 0} (in_bulk : Option (T → List ℕ)) (position : S → ℕ) (k : Keys.Ghosts S) (w : Both (MutBor S) (MutBor S)) (takes_memory : Bool) (L : Layout) (xs : List T) (result : Result ℕ Error) where
-  -- The same, as a contract says it.
-  abbrev pub SliceInBulk : Type 0
-  SliceInBulk = SliceWritesInBulk in_bulk L xs (position w.entry.now) (k.state w.entry.now) (k.state w.exit.now) takes_memory result
-
-  abbrev pub OwnedInBulk : Type 0
-  OwnedInBulk = OwnerWritesInBulk in_bulk L xs (position w.entry.now) (k.state w.entry.now) (k.state w.exit.now) takes_memory result

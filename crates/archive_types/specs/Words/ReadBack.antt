@@ -1,4 +1,4 @@
--- What is said of the writing of a source, and of what is read back as one.
+-- What is said of what is read back as a source.
 use denote.Triple.Both.{Both}
 use denote.Ref.{MutBor}
 use Rattle.std.specs.Prelude.{Result, IfOk, IfErr}
