@@ -1,5 +1,6 @@
 -- Pools: what their calls return and leave, and what is read back of what a shared pointer leads to.
-use Rattle.std.specs.Prelude.{◌≡◌, ◌⊎◌, ℕ, nat_eq, pos, List, ◌∷◌, Option, Some, None, is_some, Result, Err, false, Bool}
+use Rattle.std.specs.Prelude.{◌≡◌, ◌⊎◌, ◌<◌, ℕ, nat_eq, pos, List, ◌∷◌, length, Option, Some, None, is_some, Result, Err, false, Bool}
+use Rattle.std.specs.List.{slice_get}
 use Rattle.std.specs.Map.{update}
 use Rattle.archive_check.specs.declared.format.error.Error.{Error}
 use Rattle.archive_check.specs.declared.format.error.Error.TheVariants.{OutOfMemory, CyclicDeserialize}
@@ -31,6 +32,16 @@ abbrev pub known_by : {T : Type 0} → (T → Kept) → Option (Option T) → En
 known_by kept None = None
 known_by kept (Some None) = Some None
 known_by kept (Some (Some x)) = Some (Some (kept x))
+
+-- A finished position has the value at an index.
+abbrev pub value_by : {T : Type 0} → List T → Option (Option ℕ) → Option (Option T)
+value_by finished None = None
+value_by finished (Some None) = Some None
+value_by finished (Some (Some index)) = Some (slice_get finished index)
+
+-- Each index of a finished position is one of the list.
+abbrev pub AreIndexed : {T : Type 0} → List T → (ℕ → Option (Option ℕ)) → Type 0
+AreIndexed finished values = (t index : ℕ) → values t ≡ Some (Some index) → index < length finished
 
 -- The result of a start: what was known of the position.
 abbrev pub IsPoolAnswer : {T : Type 0} → (T → Kept) → EntryState → PoolingState T → Type 0

@@ -7,13 +7,15 @@ ghost use Rattle.std.proofs.Common.{true≢false};
 ghost use Rattle.archive_check.specs.Entries.{NoEntries, KeepsEntries};
 ghost use Rattle.archive_check.specs.Pooled.{Kept, pooled};
 ghost use Rattle.archive_check.specs.declared.format.error.Error.TheVariants.{OutOfMemory};
-ghost use Rattle.archive_core.specs.Pooling.{known_by, IsPoolAnswer, IsSame, Spans, IsFinishAnswer};
+ghost use Rattle.archive_write.specs.FinishedKeys.{AreFinishedKeys};
+ghost use Rattle.archive_core.specs.Pooling.{known_by, value_by, AreIndexed, IsPoolAnswer, IsSame, Spans, IsFinishAnswer};
 ghost use Rattle.archive_core.specs.KeptValues.{kept_value};
 ghost use Rattle.archive_core.specs.SharedSeen.{ReadsKept, HandsOut, SaysShown, RefusesKept, PutAt};
 
 use archive_check::format::error::Error;
 use archive_types::traits::{Archive, ArchivePointee, DeserializeUnsized, Entries};
 use archive_types::view::Ref;
+use archive_write::repeats::Repeats;
 use std::alloc::Global;
 use std::collections::HashMap;
 
@@ -148,7 +150,13 @@ impl<T: Pooled, D: Pooling<T>> PoolingExt<T> for D {}
 /// ```
 #[derive(Drop)]
 pub struct Pool<T> {
-    values: HashMap<usize, Option<T>>,
+    // A finished position has the index of its value.
+    values: HashMap<usize, Option<usize>>,
+    finished: Vec<T>,
+    // The indices of positions to which many pointers lead.
+    repeats: Repeats<usize>,
+    ghost indexed: { AreIndexed finished.items (get nat_eq values) },
+    ghost recalls: { AreFinishedKeys repeats.slots (get nat_eq values) },
 }
 
 impl<T: Pooled> Pool<T> {
@@ -158,6 +166,8 @@ impl<T: Pooled> Pool<T> {
     {
         Pool {
             values: HashMap::new(alloc),
+            finished: Vec::new(alloc),
+            repeats: Repeats::new(alloc),
         }
     }
 
@@ -170,6 +180,8 @@ impl<T: Pooled> Pool<T> {
     {
         Ok(Pool {
             values: HashMap::with_capacity(alloc, capacity)?,
+            finished: Vec::with_capacity(alloc, capacity)?,
+            repeats: Repeats::new(alloc),
         })
     }
 
@@ -180,10 +192,37 @@ impl<T: Pooled> Pool<T> {
     {
         self.values.contains_key(&pos)
     }
+
+    // The index of a finished position's value; none while the position is pending.
+    #[inline(always)]
+    fn find(&mut self, pos: usize) -> Option<Option<usize>>
+        ensures state { result ≡ get nat_eq self.old.values pos }
+        ensures same { self.new.values ≡ self.old.values }
+        ensures same_finished { self.new.finished ≡ self.old.finished }
+    {
+        match self.repeats.get(pos as u64) {
+            Some(index) => Some(Some(*index)),
+            None => self.search(pos),
+        }
+    }
+
+    // The same, by the map.
+    #[inline(always)]
+    fn search(&mut self, pos: usize) -> Option<Option<usize>>
+        ensures state { result ≡ get nat_eq self.old.values pos }
+        ensures same { self.new.values ≡ self.old.values }
+        ensures same_finished { self.new.finished ≡ self.old.finished }
+    {
+        let state = self.values.get(&pos).copied();
+        if let Some(Some(index)) = state {
+            self.repeats.add_found(pos as u64, index, self.values.len());
+        }
+        state
+    }
 }
 
 impl<T: Pooled> Entries for Pool<T> {
-    ghost entry_of = { λ p t. known_by T.kept (get nat_eq p.values t) };
+    ghost entry_of = { λ p t. known_by T.kept (value_by p.finished.items (get nat_eq p.values t)) };
 
     ghost keeps = { true };
 
@@ -192,9 +231,11 @@ impl<T: Pooled> Entries for Pool<T> {
 
 impl<T: Pooled> Pooling<T> for Pool<T> {
     fn start_pooling(&mut self, pos: usize) -> Result<PoolingState<T>, Error> {
-        match self.values.get(&pos) {
+        match self.find(pos) {
             Some(None) => return Ok(PoolingState::Pending),
-            Some(Some(value)) => return Ok(PoolingState::Finished(value.clone()?)),
+            Some(Some(index)) => {
+                return Ok(PoolingState::Finished(self.finished[index].clone()?));
+            }
             None => {}
         }
         self.values
@@ -206,9 +247,13 @@ impl<T: Pooled> Pooling<T> for Pool<T> {
     fn finish_pooling(&mut self, pos: usize, value: T) -> Result<(), Error> {
         match self.values.get_mut(&pos) {
             None => Err(Error::NotStarted),
-            Some(Some(_)) => Err(Error::AlreadyFinished),
             Some(state) => {
-                *state = Some(value);
+                if state.is_some() {
+                    return Err(Error::AlreadyFinished);
+                }
+                let index = self.finished.len();
+                self.finished.push(value)?;
+                *state = Some(index);
                 Ok(())
             }
         }

@@ -1,0 +1,13 @@
+use Rattle.std.proofs.Common.{◌≡◌, nat_eq, sym, ap, ◌∙◌, Some}
+use Rattle.std.specs.HashMap.{get}
+use Rattle.archive_write.proofs.FinishedKeys.{finished_found}
+use Rattle.archive_core.proofs.pooling.Pool.search.Goals as goal
+
+pub invariant_of-self : goal.invariant_of-self
+invariant_of-self g c =
+    let finished : c.in-Some-Some.field-0 ≡ Some c.in-Some-Some.index = rw (c.in-Some-Some.is) at c.in-Some-Some.field-0-is in
+    let found = sym c.get.ensures.value ∙ sym c.copied-state.ensures ∙ c.in-Some-Some.is ∙ ap Some finished in
+    record {
+      indexed = c.args.self.now.indexed;
+      recalls = finished_found c.args.self.now.repeats.slots c.add_found.new.self.slots (get nat_eq c.args.self.now.values) c.args.pos c.in-Some-Some.index found c.add_found.ensures c.args.self.now.recalls;
+    }
