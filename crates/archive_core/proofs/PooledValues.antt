@@ -1,16 +1,12 @@
 -- What a pool keeps of positions stays right where they are started or finished.
-use Rattle.std.proofs.Common.{◌≡◌, ◌<◌, ℕ, Bool, true, false, cond, List, [], ◌∷◌, ◌++◌, length, refl, sym, ap, ◌∙◌, subst, Option, Some, None, Result, Ok, Err, OnOk, OnErr, inl, inr, arith, nat_eq, is_some}
+use Rattle.std.proofs.Common.{◌≡◌, ◌<◌, ℕ, Bool, true, false, cond, List, [], ◌∷◌, ◌++◌, length, refl, sym, ap, ◌∙◌, subst, Option, Some, None, Result, Ok, Err, OnOk, OnErr, arith, nat_eq}
 use Rattle.std.specs.List.{slice_get}
 use Rattle.std.specs.Map.{lookup}
 use Rattle.std.specs.HashMap.{HashMap, get, Updates, IsUnchanged}
-use Rattle.std.specs.Prelude.{◌≤◌}
-use Rattle.std.proofs.lemmas.Option.{gets, slice_get_cases}
+use Rattle.std.proofs.lemmas.Option.{gets}
 use Rattle.std.proofs.lemmas.Grind.{common_steps}
-use Rattle.archive_check.specs.declared.format.error.Error.{Error}
-use Rattle.archive_check.specs.declared.format.error.Error.TheVariants.{AlreadyFinished}
-use Rattle.archive_check.specs.context.PositionStates.{finish_answer}
-use Rattle.archive_check.specs.Pooled.{Kept, Entries, pooled}
-use Rattle.archive_core.specs.Pooling.{known_by, value_by, AreIndexed, IsPut, IsSame}
+use Rattle.archive_check.specs.Pooled.{Kept}
+use Rattle.archive_core.specs.Pooling.{known_by, value_by, AreIndexed, IsPut}
 
 module _ {T : Type 0} where
   last_of : (xs : List T) (x : T) → slice_get (xs ++ x ∷ []) (length xs) ≡ Some x
@@ -58,20 +54,6 @@ module _ {T : Type 0} where
   pub indexed_again : (xs : List T) (f g : ℕ → Option (Option ℕ)) (key : ℕ) (state : Option ℕ) → Some state ≡ f key → ((t : ℕ) → g t ≡ cond (nat_eq key t) (Some state) (f t)) → AreIndexed xs f → AreIndexed xs g
   indexed_again xs f g key state here e before t i is = same_case xs (nat_eq key t) (f key) (f t) state i here (before key) (before t i) (sym (e t) ∙ is)
 
-  is_there : (xs : List T) (i : ℕ) → i < length xs → (x : T) × (slice_get xs i ≡ Some x)
-  is_there xs i within =
-      elim ((slice_get_cases xs i).1) [
-        | inl found ↦ (found.0, found.2)
-        | inr past ↦ let h : length xs ≤ i = past.0 in absurd (omega arith)
-      ]
-
-  pub finished_is : (kept : T → Kept) (xs : List T) (s : Option (Option ℕ)) (state : Option ℕ) → Some state ≡ s → is_some state ≡ true → ((i : ℕ) → s ≡ Some (Some i) → i < length xs)
-      → finish_answer is_some (known_by kept (value_by xs s)) ≡ Err AlreadyFinished
-  finished_is kept xs s None here finished within = cc
-  finished_is kept xs s (Some i) here finished within =
-      let there = is_there xs i (within i (sym here)) in
-      ap (λ o. finish_answer is_some (known_by kept (value_by xs o))) (sym here) ∙ ap (λ o. finish_answer is_some (known_by kept (Some o))) there.1
-
   pending_case : (xs : List T) (b : Bool) (s : Option (Option ℕ)) (i : ℕ) → (s ≡ Some (Some i) → i < length xs) → cond b (Some None) s ≡ Some (Some i) → i < length xs
   pending_case xs true s i other is = cc
   pending_case xs false s i other is = other is
@@ -83,15 +65,6 @@ module _ {T : Type 0} where
   indexed_inserted xs m n key (Err e) ok err before = subst (λ es. AreIndexed xs (λ q. lookup (nat_eq q) es)) (sym err) before
 
   module _ (kept : T → Kept) where
-    start_case : (xs : List T) (b : Bool) (s r : Option (Option ℕ)) → s ≡ None → known_by kept (value_by xs (cond b (Some None) r)) ≡ cond b (pooled (known_by kept (value_by xs s))) (known_by kept (value_by xs r))
-    start_case xs true s r none = ap (λ o. pooled (known_by kept (value_by xs o))) (sym none)
-    start_case xs false s r none = refl
-
-    -- an unknown position is pending now
-    pub started_put : (xs : List T) (f g : ℕ → Option (Option ℕ)) (key : ℕ) → f key ≡ None → ((t : ℕ) → g t ≡ cond (nat_eq key t) (Some None) (f t))
-        → IsPut (λ t. known_by kept (value_by xs (f t))) key (pooled (known_by kept (value_by xs (f key)))) (λ t. known_by kept (value_by xs (g t)))
-    started_put xs f g key none e u = ap (λ o. known_by kept (value_by xs o)) (e u) ∙ start_case xs (nat_eq key u) (f key) (f u) none
-
     finish_case : (xs : List T) (x : T) (b : Bool) (s : Option (Option ℕ)) → ((i : ℕ) → s ≡ Some (Some i) → i < length xs)
         → known_by kept (value_by (xs ++ x ∷ []) (cond b (Some (Some (length xs))) s)) ≡ cond b (Some (Some (kept x))) (known_by kept (value_by xs s))
     finish_case xs x true s within = ap (λ o. known_by kept (Some o)) (last_of xs x)
