@@ -97,10 +97,12 @@ class Parser:
     def fault(self, line: int, why: str):
         self.faults.append(Refused(self.path, line, why))
 
-    def want(self, sign: str, where: str = ""):
+    def want(self, sign: str, where: str = "", other: str = ""):
+        """Takes a sign; `other` may be missing instead of it, but not before what closes something, nor at the end."""
         if not self.take(sign):
             found = self.peek()
-            self.refuse(found.line, f"found {found.said()}{where}; write `{sign}` here")
+            wanted = f"`{other}` or `{sign}`" if other and found.kind != END and found.text not in CLOSES.values() else f"`{sign}`"
+            self.refuse(found.line, f"found {found.said()}{where}; write {wanted} here")
 
     def show(self, name: str):
         if self.is_shown:
@@ -402,7 +404,7 @@ class Parser:
                 self.want(":", f" behind the field `{name}`")
             out.append(Field(name, self.type(), line, docs, seen))
             if not self.take(","):
-                self.want(shut, f" behind the field `{name}` of {of}")
+                self.want(shut, f" behind the field `{name}` of {of}", ",")
                 break
         return out
 
@@ -445,7 +447,7 @@ class Parser:
                 self.fault(token.line, f"`{token.text}` has a number of its own, and tags count from 0; remove `= ..`")
                 self.discriminant()
             if not self.take(","):
-                self.want("}", f" behind the variant `{token.text}`")
+                self.want("}", f" behind the variant `{token.text}`", ",")
                 break
 
     def discriminant(self):

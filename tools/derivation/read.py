@@ -230,12 +230,15 @@ class Reader:
             return self.no_format(it, scope, f"`{name}` isn't brought in; write `use archive_core::{module}::{name};`")
         if name in INSTEAD:
             return self.no_format(it, scope, f"`{name}` has no format; write {INSTEAD[name]}")
-        return self.no_format(it, scope, f"`{'::'.join(it.path)}` has no format here; declare it in a file of its own and run tools/derive on that, or bring it in by `use`")
+        if name.startswith("Archived") and name != "Archived":
+            return self.no_format(it, scope, f"`{name}` is an archived type; write the type of its values, as `String` for `ArchivedString`")
+        return self.no_format(it, scope, f"`{'::'.join(it.path)}` has no format here; declare it in a file of its own and run tools/derive on that, or name it in a `use`")
 
     def want_arguments(self, it: Type, scope: Scope, count: int):
         if len(it.args) != count:
-            wanted = {0: "none", 1: "one", 2: "two"}.get(count, str(count))
-            raise self.no_format(it, scope, f"`{it.name}` takes {wanted} where {len(it.args)} arguments are written; write {wanted}")
+            wanted = {0: "no", 1: "one", 2: "two"}.get(count, str(count))
+            noun = "argument" if count == 1 else "arguments"
+            raise self.no_format(it, scope, f"`{it.name}` takes {wanted} {noun}, not {len(it.args)}; write {wanted if count else 'none'}")
 
     def primitive_type(self, it: Type, found: Found, scope: Scope) -> Type:
         self.want_arguments(it, scope, 0)
@@ -357,7 +360,8 @@ def module(reader: Reader, source: Source) -> Module:
     out.globbed = reader.world.globbed(source)
     out.declarations = [one for it in source.declared.values() for one in reader.declarations(it, source)]
     if not out.declarations:
-        raise Refused(source.path, 1, "no struct and no enum is declared here; declare one above the marker")
+        above = " above the line that tools/derive wrote" if source.written else ""
+        raise Refused(source.path, 1, f"no struct and no enum is declared here; declare one{above}")
     check_circles(out.declarations)
     checks.check_nests(out)
     checks.check_loads(out)

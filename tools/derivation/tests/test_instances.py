@@ -35,7 +35,7 @@ class Instances(RepositoryTest):
             (EITHER, "2: `Either` has type parameters: name the types that it is used with, each by an alias in this file, as `pub type EitherOf.. = Either<.., ..>;`"),
             (f"// name: Other\n{EITHER}type A = Either<u8, u8>;\n", "3: `Either` has type parameters, so its archived types have the names of its aliases; remove the line `// name:`"),
             (f"{EITHER}type A = Either<u8, u8>;\ntype B = Either<u8, u8>;\n", "4: `A` and `B` are one type; remove one of these aliases"),
-            (f"{EITHER}type A = Either<u8>;\n", "3: `Either` takes two where 1 arguments are written; write two"),
+            (f"{EITHER}type A = Either<u8>;\n", "3: `Either` takes two arguments, not 1; write two"),
             (f"{EITHER}type A = Either<u8, f32>;\n", "3: a float has no format"),
             (f"{EITHER}type A = Either<u8, u8>;\nstruct B {{ b: Either<u8, u16> }}\n", "4: no alias stands for `Either<u8, u16>`; write one into"),
             (f"{EITHER}type A = Either<u8, u8>;\nstruct B<T> {{ b: Either<u8, T> }}\n", "4: `Either<u8, T>` names a parameter, and what is archived by its aliases takes types alone; write a type"),
