@@ -1,6 +1,6 @@
 //! Calls of a check, in functions that promise these calls' clauses: wrong bodies of this module are rejected.
 
-ghost use Rattle.std.specs.Prelude.{IfErr, IfOk, IfSome, IsErrOf, IsTrue, OnErr, OnOk, OnSome, Some, length, ◌*◌, ◌+◌, ◌<◌, ◌↔◌, ◌≡◌, ◌≤◌};
+ghost use Rattle.std.specs.Prelude.{Err, IfErr, IfNone, IfOk, IfSome, IsErrOf, IsTrue, Ok, OnErr, OnOk, OnSome, Some, length, ◌*◌, ◌+◌, ◌<◌, ◌↔◌, ◌≡◌, ◌≤◌};
 ghost use Rattle.archive_check.specs.Defined.{WellFormed};
 ghost use Rattle.archive_check.specs.Definitions.{listed};
 ghost use Rattle.archive_check.specs.Expressions.{key_of};
@@ -12,13 +12,16 @@ ghost use Rattle.archive_check.specs.SelfCheck.Ways.{shape_way};
 ghost use Rattle.archive_check.specs.Shape.{array};
 ghost use Rattle.archive_check.specs.Words.Faults.{IsOfCheck};
 ghost use Rattle.archive_check.specs.context.Contexts.{AcceptsIn, IsExactIn, RefusesIn};
+ghost use Rattle.archive_check.specs.context.EnteredRegions.{Enters, EntersNot};
 ghost use Rattle.archive_check.specs.context.FreshContexts.{HasLevels, KeepsLevels};
 ghost use Rattle.archive_check.specs.context.PositionStates.{IsFinishedAnswer, IsStartAnswer, Starts, entry_as};
 ghost use Rattle.archive_check.specs.context.Pushes.{FewPushed, Spends};
-ghost use Rattle.archive_check.specs.context.Ranges.{pushed, subtree_answer};
+ghost use Rattle.archive_check.specs.context.Ranges.{pop_answer, popped, pushed, subtree_answer};
 ghost use Rattle.archive_schema.specs.ContextAnswers.{AnswersIn};
 ghost use Rattle.archive_schema.specs.Schemas.{HasMeaning, definitions_in, root_of};
 
+use archive_check::context::range::Region;
+use archive_check::context::regions::{enter, leave};
 use archive_check::context::{ArchiveContext, SharedContext, ValidationState};
 use archive_check::format::error::Error;
 use archive_check::format::expr::{FlavorInfo, Key, Pointee};
@@ -60,6 +63,43 @@ pub fn enter_range<C: ArchiveContext>(
     ensures positions { C.positions context.new ≡ C.positions context.old }
 {
     context.push_subtree_range(root, end)
+}
+
+/// Enters the region of `whole` bytes that a box leads to. Requires and stops as `enter` does.
+pub fn enter_box<C: ArchiveContext>(
+    whole: Option<usize>,
+    align: usize,
+    position: i128,
+    refusal: &mut Error,
+    context: &mut C,
+) -> Option<Region>
+    requires { 0 < align }
+    ensures entered { IfSome result (Enters (C.state context.old) (C.state context.new) position
+        align whole) }
+    ensures stops { IfNone result (EntersNot (C.state context.old) position align whole
+        refusal.new) }
+    ensures pushes { OnSome result ((C.state context.new).pushes ≤ (C.state context.old).pushes
+        + 1) }
+    ensures unchanged { IfNone result (C.state context.new ≡ C.state context.old) }
+    ensures positions { OnSome result (C.positions context.new ≡ C.positions context.old) }
+{
+    enter(whole, align, position, refusal, context)
+}
+
+/// Leaves a region: the range is that from `start` to `end` again. Stops as `leave` does.
+pub fn leave_box<C: ArchiveContext>(
+    start: usize,
+    end: usize,
+    refusal: &mut Error,
+    context: &mut C,
+) -> Option<()>
+    ensures left { OnSome result (C.state context.new ≡ popped (C.state context.old) start end) }
+    ensures taken { OnSome result (pop_answer (C.state context.old) start ≡ Ok tt) }
+    ensures refused { IfNone result (pop_answer (C.state context.old) start ≡ Err refusal.new) }
+    ensures unchanged { IfNone result (C.state context.new ≡ C.state context.old) }
+    ensures positions { OnSome result (C.positions context.new ≡ C.positions context.old) }
+{
+    leave(start, end, refusal, context)
 }
 
 /// Comes to a pointee at `position`. Fails as `start_shared` does.
