@@ -5,6 +5,7 @@
 pub use derived_types::{entry, event, spot, track};
 pub use recursive_types::tree;
 
+pub mod contracts;
 #[cfg(test)]
 mod editing;
 #[cfg(test)]
