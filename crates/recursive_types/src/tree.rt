@@ -190,6 +190,7 @@ impl Archive for Tree {
 
 // Writes what each of the values owns, in order.
 #[cycle(serialize_tree)]
+#[inline(never)]
 fn serialize_each_tree<S: Writer + Keys + ResolverAlloc>(
     values: &[Tree],
     serializer: &mut S,
@@ -221,6 +222,7 @@ fn serialize_each_tree<S: Writer + Keys + ResolverAlloc>(
 
 // Writes what a vector owns.
 #[cycle(serialize_tree)]
+#[inline(always)]
 fn serialize_vec_tree<S: Writer + Keys + ResolverAlloc>(
     value: &Vec<Tree>,
     serializer: &mut S,
@@ -239,6 +241,13 @@ fn serialize_vec_tree<S: Writer + Keys + ResolverAlloc>(
         return Err(Error::LengthTooLarge);
     }
     let items = value.as_slice();
+    if items.is_empty() {
+        let none = Vec::new(serializer.resolver_alloc());
+        return match serialize_inner_slice(items, none, serializer) {
+            Ok(at) => Ok(at),
+            Err(error) => Err(error),
+        };
+    }
     let kept = match serialize_each_tree(items, serializer) {
         Ok(kept) => kept,
         Err(error) => return Err(error),
@@ -251,6 +260,7 @@ fn serialize_vec_tree<S: Writer + Keys + ResolverAlloc>(
 
 // Writes what a value owns, part by part.
 #[cycle(serialize_tree)]
+#[inline(always)]
 fn serialize_tree<S: Writer + Keys + ResolverAlloc>(
     value: &Tree,
     serializer: &mut S,

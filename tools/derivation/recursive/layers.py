@@ -112,6 +112,8 @@ class Recursive:
         self.rows = [type for type in self.owners if self.terms.is_row(type)]
         self.maps = [type for type in self.owners if is_map(type)]
         self.nest = nest_of(declaration)
+        # a struct of which only one vector leads back: what a value without elements owns is written in line
+        self.is_tree = self.is_record and self.is_simple and [type.name for type in self.owners] == ["Vec"] and sum(self.cases[0].leads_back) == 1
 
     def owners_of(self):
         """The owners of the family that its parts name and that no type before it does, each once, with what they hold first."""

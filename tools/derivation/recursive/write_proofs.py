@@ -276,19 +276,33 @@ def run_owner_written(it, type, answers):
     inner, ok, since, owned = "serialize_inner_slice", "listed", ".since", f"vec_refused {whole}"
     if type.name == "BoxSlice":
         inner, ok, since, owned = "serialize_inner_box_slice", "boxed", "", f"box_refused {D} (run {X}) (length {items}) (each_keys {k} {items})"
-    goes = f"(goes_both _ _ _ c.{each}.ensures.goes_on c.{inner}.ensures.goes_on)"
+    # where an empty vector is written in line, what is behind it is known under longer names
+    again, by_each = ("-2", f"-{each}") if it.is_tree else ("", "")
+    goes = f"(goes_both _ _ _ c.{each}.ensures.goes_on c.{inner}{again}.ensures.goes_on)"
     as_items = "rw c.as_slice-items.ensures.value at"
     long = f"(let whole : length {items} ≡ c.len.result = grind (arith, common_steps, c.len.ensures) in omega (arith, c.if-len.true, whole))"
     answers.answer(
         function, "returns-then-len-clause-refused",
         f"(let long : 4294967295 < length {items} = {long} in {owned} {meaning} _ _ _ (long_run_refused {whole} (each_meaning {m} {items}) _ _ {plans} long))",
     )
-    answers.answer(function, "returns-in-Err-clause-refused", f"{owned} {meaning} _ _ _ (run_owned {whole} (each_meaning {m} {items}) _ _ _ ({as_items} c.in-Err.ensures.refused))")
-    listed, unlisted = (f"({as_items} c.in-{arm}-{inner}.ensures.{clause}){since} _ c.{each}.ensures.goes_on ({as_items} c.in-Ok.ensures.serialized)" for arm, clause in (("Ok", ok), ("Err", "refused")))
+    if it.is_tree:
+        empty_run_written(it, item, answers, function, f"{D} {X} {t.said(item)}")
+    answers.answer(function, f"returns-in-Err{by_each}-clause-refused", f"{owned} {meaning} _ _ _ (run_owned {whole} (each_meaning {m} {items}) _ _ _ ({as_items} c.in-Err{by_each}.ensures.refused))")
+    listed, unlisted = (f"({as_items} c.in-{arm}-{inner}.ensures.{clause}){since} _ c.{each}.ensures.goes_on ({as_items} c.in-Ok{by_each}.ensures.serialized)" for arm, clause in (("Ok", ok), ("Err", "refused")))
     answers.answer(function, f"returns-in-Ok-{inner}-clause-serialized", listed)
     answers.answer(function, f"returns-in-Ok-{inner}-clause-goes_on", goes)
     answers.answer(function, f"returns-in-Err-{inner}-clause-goes_on", goes)
     answers.answer(function, f"returns-in-Err-{inner}-clause-refused", unlisted)
+
+
+def empty_run_written(it, item, answers, function, said):
+    """The answers on a vector without elements, which is written in line."""
+    items = "c.args.value.now.items"
+    run = f"{said} {functions_of(it, 'flat', item)} {functions_of(it, 'belongs', item)} _ {items}"
+    empty = f"(let none : length {items} ≡ 0 = grind (arith, common_steps, c.is_empty.ensures, c.if-is_empty.true, c.as_slice-items.ensures.value) in drop_of_length-le {items} {{i = 0}} (omega (arith, none)))"
+    whole = f"(continues_end {run} _ {items} [] {empty} (continues_start {run}))"
+    for arm, clause, its in (("Ok", "listed", "serialized"), ("Err", "refused", "refused")):
+        answers.answer(function, f"returns-in-{arm}-clause-{its}", f"(rw (c.as_slice-items.ensures.value, c.new-none.ensures.items) at c.in-{arm}.ensures.{clause}).since _ (goes_nowhere _) {whole}")
 
 
 def choice_written(it, answers):

@@ -179,7 +179,7 @@ def each_writing(it, item):
     run = f"{D} {X} (length values.now) (each_keys ⟦<{its} as Archive>⟧.keys values.now)\n        (each_meaning ⟦<{its} as Archive>⟧.meaning values.now)"
     return f"""{before}// Writes what each of the values owns, in order.
 #[cycle(serialize_{it.family.n})]
-fn serialize_each_{it.word(item)}<{it.writer}>(values: &[{its}], serializer: &mut S) -> Result<Vec<<{its} as Archive>::Resolver, S::Alloc>, Error>
+{"#[inline(never)]" + chr(10) if it.is_tree else ""}fn serialize_each_{it.word(item)}<{it.writer}>(values: &[{its}], serializer: &mut S) -> Result<Vec<<{its} as Archive>::Resolver, S::Alloc>, Error>
     ensures serialized {{ IfOk result (λ rs. SerializedRun {run}
         (each_flat ⟦<{its} as Archive>⟧.flat values.now rs.items) (S.state serializer.old)
         (S.state serializer.new)) }}
@@ -219,13 +219,13 @@ def run_writing(it, type):
         of, what, region, says = f"Vec<{it.formats.rust(type.args[0])}>", "a boxed slice of these elements", "serialize_inner_box_slice", boxed_contract(it, type)
     return f"""// Writes what {what} owns.
 #[cycle(serialize_{it.family.n})]
-fn serialize_{it.word(type)}<{it.writer}>(value: &{of}, serializer: &mut S) -> Result<{resolvers.kept(it, type)}, Error>
+{in_line(it)}fn serialize_{it.word(type)}<{it.writer}>(value: &{of}, serializer: &mut S) -> Result<{resolvers.kept(it, type)}, Error>
 {says}{{
     if value.len() > u32::MAX as usize {{
         return Err(Error::LengthTooLarge);
     }}
     let items = value.as_slice();
-    let kept = match serialize_each_{it.word(type.args[0])}(items, serializer) {{
+{of_no_elements(it, region)}    let kept = match serialize_each_{it.word(type.args[0])}(items, serializer) {{
         Ok(kept) => kept,
         Err(error) => return Err(error),
     }};
@@ -234,6 +234,25 @@ fn serialize_{it.word(type)}<{it.writer}>(value: &{of}, serializer: &mut S) -> R
         Err(error) => Err(error),
     }}
 }}
+"""
+
+
+def in_line(it):
+    """That a function is inlined: the one that goes over a vector's elements calls itself then."""
+    return "#[inline(always)]\n" if it.is_tree else ""
+
+
+def of_no_elements(it, region):
+    """The lines that write an empty vector without a call."""
+    if not it.is_tree:
+        return ""
+    return f"""    if items.is_empty() {{
+        let none = Vec::new(serializer.resolver_alloc());
+        return match {region}(items, none, serializer) {{
+            Ok(at) => Ok(at),
+            Err(error) => Err(error),
+        }};
+    }}
 """
 
 
@@ -425,7 +444,7 @@ def record_writing(it):
     case = it.cases[0]
     values = [f"&value.{field.name}" for field in case.fields]
     return f"""// Writes what a value owns, part by part.
-{cycle_of(it)}fn serialize_{it.n}<{it.writer}>(value: &{it.name}, serializer: &mut S) -> Result<{it.resolver}, Error>
+{cycle_of(it)}{in_line(it)}fn serialize_{it.n}<{it.writer}>(value: &{it.name}, serializer: &mut S) -> Result<{it.resolver}, Error>
 {contract(it, it.itself, "value")}{{
 {parts_written(it, case, values)}    Ok({it.resolver} {{ kept: {flat(pair(case.names))} }})
 }}
