@@ -7,6 +7,7 @@ pub mod EntryPlaces
 pub mod EntryTurns
 pub mod FollowedPointers
 pub mod HollowRecords
+pub mod HollowTurns
 pub mod KeysAtOnce
 pub mod LegalElements
 pub mod LegalParts

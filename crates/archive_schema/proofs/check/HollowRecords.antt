@@ -87,7 +87,7 @@ each_free nodes (y ∷ ys) (suc k) x h at = each_free nodes ys k x (and_parts _ 
 part_is_free : (nodes : List Node) (parts : List Part) (b n a k : ℕ) (x : Part) → k ≡ a + n → k < b → b ≤ length parts → IsFreeSpan nodes parts a b → IsAt parts k x → IsTrue (free_at nodes x.node)
 part_is_free nodes parts b n a k x e lt le h at = each_free nodes (span parts a b) n x h (at_span parts a b n x (omega arith) (rw e at at))
 
-part_free : (m : Checker) (p a b k : ℕ) → PartsFit m a b p → IsFreeSpan m.nodes.now m.parts.now a b → a ≤ k → k < b → PartIsLegalHere m p k
+pub part_free : (m : Checker) (p a b k : ℕ) → PartsFit m a b p → IsFreeSpan m.nodes.now m.parts.now a b → a ≤ k → k < b → PartIsLegalHere m p k
 part_free m p a b k fit free from to =
     let x = slice_index_or m.parts.now k (record { offset = 0; node = 0 }) in
     let at = at_default m.parts.now k (record { offset = 0; node = 0 }) (omega (arith, fit.last)) in

@@ -1,4 +1,4 @@
-//! Records that end in a run of no elements, as a tree's leaves do, are checked one after another, and nothing is listed for them.
+//! Records that end in a run: those with no elements, as a tree's leaves, are checked one after another, and nothing is listed for them.
 
 ghost use Rattle.std.specs.Prelude.{◌+◌, ◌<◌, ◌≤◌, length, IfSome, IsTrue};
 ghost use Rattle.archive_schema.specs.declared.plan.NodeKind.TheVariants.{Pointer as PointerNode};
@@ -23,19 +23,19 @@ use archive_check::format::bytes::{read_position, read_u32};
 
 /// A record's parts, of which the last one is a pointer to a run, and the others are shallow.
 #[derive(Clone, Copy)]
-struct Hollow {
-    // The first part.
-    first: usize,
-    // The last one,
-    end: usize,
-    // its offset,
-    offset: usize,
-    // its node,
-    node: usize,
-    // and the node that it leads to.
-    pointee: usize,
-    // Whether the others may be any bytes.
-    is_free: bool,
+pub struct Hollow {
+    /// The first part.
+    pub first: usize,
+    /// The last one.
+    pub end: usize,
+    /// The last one's offset.
+    pub offset: usize,
+    /// The last one's node.
+    pub node: usize,
+    /// The node that it leads to.
+    pub pointee: usize,
+    /// Whether the others may be any bytes.
+    pub is_free: bool,
 }
 
 impl Checker<'_> {
@@ -141,8 +141,8 @@ impl Checker<'_> {
         read_u32(self.bytes, at + parts.offset + 4) == 0
     }
 
-    // The parts of a node, if it is a record whose last part is a pointer to a run, and whose other parts are shallow.
-    fn hollow(&self, node: usize, size: usize) -> Option<Hollow>
+    /// The parts of a node, if it is a record whose last part is a pointer to a run, and whose other parts are shallow.
+    pub fn hollow(&self, node: usize, size: usize) -> Option<Hollow>
         requires plan { IsCheckable self.now }
         requires takes { Takes self.now node size }
         ensures { IfSome result (λ parts. IsHollow self.now node parts) }
@@ -176,11 +176,13 @@ impl Checker<'_> {
         })
     }
 
-    /// Checks the first of the elements at `at`, each of `size` bytes: as many as are records that end in a run of no elements, and lead to nothing else that has
-    /// to be listed. Returns how many, or `None` where one is rejected, with the reason in `work`.
+    /// Checks the first of the records at `at`, each of `size` bytes, whose parts these are: as many as end in a run of no elements. Returns how many, or `None`
+    /// where one is rejected, with the reason in `work`.
+    #[inline(always)]
     pub fn check_hollow<C: ArchiveContext>(
         &self,
         node: usize,
+        parts: Hollow,
         count: usize,
         at: usize,
         size: usize,
@@ -188,15 +190,13 @@ impl Checker<'_> {
         context: &mut C,
     ) -> Option<usize>
         requires plan { IsCheckable self.now }
+        requires hollow { IsHollow self.now node parts }
         requires fits { ElementsFit self.now node count at }
         requires size { Takes self.now node size }
         requires below { (C.state context.old).end ≤ length self.now.bytes.now }
         ensures passes { PassesFront C.Context self.now node count at size context work result }
         ensures pays { PaysFront C.Context self.now node count context work result }
     {
-        let Some(parts) = self.hollow(node, size) else {
-            return Some(0);
-        };
         for index in 0..count {
             let element = at + index * size;
             if !self.is_empty_here(node, parts, element) {

@@ -1,9 +1,12 @@
 //! The loop of a check: each entry of the list is opened, and leaves others in its place.
 
 ghost use Rattle.std.specs.Prelude.{◌≡◌, ◌+◌, ◌-◌, ◌<◌, ◌≤◌, ◌∷◌, [], length, OnSome, IfNone, IsTrue};
+ghost use Rattle.archive_schema.specs.declared.plan.NodeKind.TheVariants.{Pointer as PointerNode};
+ghost use Rattle.archive_schema.specs.declared.plan.PointeeKind.TheVariants.{Run as RunOf};
 ghost use Rattle.archive_schema.specs.declared.check.worklist.Work.TheVariants.{Part as PartWork, Parts as PartsWork, Elements as ElementsWork, Leave as LeaveWork};
 ghost use Rattle.archive_schema.specs.check.Lists.{list_of};
-ghost use Rattle.archive_schema.specs.check.Runs.{pointer_bytes, before_at, Takes};
+ghost use Rattle.archive_schema.specs.check.Runs.{IsNode, pointer_bytes, before_at, Takes};
+ghost use Rattle.archive_schema.specs.check.Hollow.{IsHollow};
 ghost use Rattle.archive_schema.specs.check.LoopInvariant.{Ready};
 ghost use Rattle.archive_check.specs.context.FreshContexts.{KeepsLevels};
 ghost use Rattle.archive_check.specs.context.Pushes.{FewPushed};
@@ -12,6 +15,7 @@ ghost use Rattle.archive_schema.specs.check.Paid.{Pays, bytes_of, bytes_of_parts
 ghost use Rattle.archive_schema.specs.check.Turns.{IsCheckable, Turn, TurnFollows, PassesRoot, StopsInRoot};
 
 use crate::check::Checker;
+use crate::check::hollow::Hollow;
 use crate::check::regions::leave_region;
 use crate::check::worklist::{Work, Worklist};
 use crate::plan::extents::{unit_of, value_offset};
@@ -179,6 +183,79 @@ impl Checker<'_> {
         self.open(node, next, work, context)
     }
 
+    /// Opens the pointer at `at` to a run, whose node this is.
+    #[inline(always)]
+    fn open_run<C: ArchiveContext + SharedContext>(
+        &self,
+        node: usize,
+        pointee: usize,
+        at: usize,
+        work: &mut Worklist,
+        context: &mut C,
+    ) -> Option<()>
+        requires plan { IsCheckable self.now }
+        requires kind { IsNode self.now node (PointerNode RunOf pointee) }
+        requires ready { Ready self.now (C.state context.old)
+            (PartWork node at ∷ list_of work.old) }
+        ensures turn { Turn C.Context self.now (PartWork node at) context work result }
+        ensures pays { Pays C.Context self.now (size_at self.now.nodes.now node) context work }
+    {
+        let count = self.count(PointeeKind::Run, at);
+        let position = read_position(self.bytes, at, at);
+        self.enter_here(PointeeKind::Run, pointee, count, position, work, context)
+    }
+
+    /// Opens the record at `at`, whose node and whose parts these are: its run alone, where its other parts may be any bytes.
+    #[inline(always)]
+    fn open_hollow<C: ArchiveContext + SharedContext>(
+        &self,
+        node: usize,
+        parts: Hollow,
+        at: usize,
+        work: &mut Worklist,
+        context: &mut C,
+    ) -> Option<()>
+        requires plan { IsCheckable self.now }
+        requires hollow { IsHollow self.now node parts }
+        requires ready { Ready self.now (C.state context.old)
+            (PartWork node at ∷ list_of work.old) }
+        ensures turn { Turn C.Context self.now (PartWork node at) context work result }
+        ensures pays { Pays C.Context self.now (size_at self.now.nodes.now node) context work }
+    {
+        if parts.is_free {
+            return self.open_run(parts.node, parts.pointee, at + parts.offset, work, context);
+        }
+        self.open(node, at, work, context)
+    }
+
+    /// Opens the first of the records at `at`, each of `size` bytes, whose parts these are, and leaves the others.
+    #[inline(always)]
+    fn open_records<C: ArchiveContext + SharedContext>(
+        &self,
+        node: usize,
+        parts: Hollow,
+        left: usize,
+        at: usize,
+        size: usize,
+        work: &mut Worklist,
+        context: &mut C,
+    ) -> Option<()>
+        requires plan { IsCheckable self.now }
+        requires hollow { IsHollow self.now node parts }
+        requires ready { Ready self.now (C.state context.old)
+            (ElementsWork node left at ∷ list_of work.old) }
+        requires size { Takes self.now node size }
+        ensures turn { Turn C.Context self.now (ElementsWork node left at) context work result }
+        ensures pays { Pays C.Context self.now (bytes_of_elements self.now node left) context
+            work }
+    {
+        if left == 0 {
+            return Some(());
+        }
+        work.more_elements(node, left - 1, at + size)?;
+        self.open_hollow(node, parts, at, work, context)
+    }
+
     /// Checks elements at `at`, each of `size` bytes, up to the first that is opened.
     #[inline(always)]
     fn check_elements<C: ArchiveContext + SharedContext>(
@@ -198,8 +275,19 @@ impl Checker<'_> {
         ensures pays { Pays C.Context self.now (bytes_of_elements self.now node left) context
             work }
     {
-        let hollow = self.check_hollow(node, left, at, size, work, context)?;
-        self.open_elements(node, left - hollow, at + hollow * size, size, work, context)
+        let Some(parts) = self.hollow(node, size) else {
+            return self.open_elements(node, left, at, size, work, context);
+        };
+        let hollow = self.check_hollow(node, parts, left, at, size, work, context)?;
+        self.open_records(
+            node,
+            parts,
+            left - hollow,
+            at + hollow * size,
+            size,
+            work,
+            context,
+        )
     }
 
     /// Leaves a region, and before it the `inner` regions in it that end with it: each gives back a
@@ -279,6 +367,7 @@ impl Checker<'_> {
     }
 
     /// Checks the root node at `at`, and all that it leads to, by a list on which nothing is left yet.
+    #[inline(always)]
     pub(crate) fn run<C: ArchiveContext + SharedContext>(
         &self,
         root: usize,

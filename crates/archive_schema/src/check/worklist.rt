@@ -131,7 +131,7 @@ impl Worklist {
     }
 
     /// So many elements are left, the next of them at `at`.
-    #[inline]
+    #[inline(always)]
     pub fn elements(&mut self, node: usize, left: usize, at: usize) -> Option<()>
         ensures some { OnSome result (list_of self.new ≡ Work.Elements node left at ∷ list_of
             self.old) }
@@ -177,6 +177,7 @@ impl Worklist {
     }
 
     /// What `elements` leaves, where there are any.
+    #[inline(always)]
     pub fn more_elements(&mut self, node: usize, left: usize, at: usize) -> Option<()>
         ensures some { OnSome result (PutsMore (Work.Elements node left at) (left ≡ 0) self) }
         ensures none { IfNone result (self.new.fault ≡ Error.OutOfMemory) }

@@ -5,7 +5,7 @@ use Rattle.archive_schema.proofs.check.LegalElements.{elements_fit}
 use Rattle.archive_schema.proofs.check.Checker.check_elements.Goals as goal
 
 pub check_hollow-requires : goal.check_hollow-requires
-check_hollow-requires g c = record { plan = c.requires.plan; fits = c.requires.ready.fits.0; size = c.requires.size; below = c.requires.ready.below }
+check_hollow-requires g c = record { plan = c.requires.plan; hollow = c.in-Some.ensures; fits = c.requires.ready.fits.0; size = c.requires.size; below = c.requires.ready.below }
 
 pub returns-in_err-hollow-clause-turn : goal.returns-in_err-hollow-clause-turn
 returns-in_err-hollow-clause-turn g c = rw c.from_residual.ensures (front_refused c.in_err-hollow.ensures.passes)
@@ -19,11 +19,11 @@ overflow_add-at g c =
     let fit = elements_fit c.args.self.now c.args.node c.args.size c.requires.size c.args.left c.args.at c.requires.ready.fits.0 in
     let h : c.args.at + c.in_ok-hollow.hollow * c.args.size ≤ length c.args.self.now.bytes.now = omega (arith, fit, all) in search rules
 
-pub open_elements-requires : goal.open_elements-requires
-open_elements-requires g c = record { plan = c.requires.plan; ready = others_ready c.requires.ready c.requires.size c.in_ok-hollow.ensures.passes.some; size = c.requires.size }
+pub open_records-requires : goal.open_records-requires
+open_records-requires g c = record { plan = c.requires.plan; hollow = c.in-Some.ensures; ready = others_ready c.requires.ready c.requires.size c.in_ok-hollow.ensures.passes.some; size = c.requires.size }
 
 pub returns-clause-turn : goal.returns-clause-turn
-returns-clause-turn g c = others_turn c.requires.ready c.requires.size c.in_ok-hollow.ensures.passes.some c.open_elements.ensures.turn
+returns-clause-turn g c = others_turn c.requires.ready c.requires.size c.in_ok-hollow.ensures.passes.some c.open_records.ensures.turn
 
 pub returns-clause-pays : goal.returns-clause-pays
-returns-clause-pays g c = omega (arith, c.in_ok-hollow.ensures.pays, c.open_elements.ensures.pays)
+returns-clause-pays g c = omega (arith, c.in_ok-hollow.ensures.pays, c.open_records.ensures.pays)

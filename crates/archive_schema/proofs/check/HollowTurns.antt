@@ -1,0 +1,48 @@
+-- What comes of a record that ends in a run, where the run is opened at once, and of some such records.
+use Rattle.std.proofs.Common.{◌≡◌, ◌∙◌, inr, refl, sym, ℕ, ◌+◌, ◌-◌, ◌<◌, ◌≤◌, arith, List, ◌∷◌, IsTrue, Option, Some, None}
+use Rattle.archive_check.specs.declared.format.error.Error.{Error}
+use Rattle.archive_check.specs.context.Ranges.{RangeState}
+use Rattle.archive_check.specs.context.PositionStates.{Positions}
+use Rattle.archive_schema.specs.declared.check.Checker.{Checker}
+use Rattle.archive_schema.specs.declared.check.hollow.Hollow.{Hollow}
+use Rattle.archive_schema.specs.declared.check.worklist.Work.{Work}
+use Rattle.archive_schema.specs.declared.check.worklist.Work.TheVariants.{Part as PartWork, Elements}
+use Rattle.archive_schema.specs.check.Hollow.{IsHollow}
+use Rattle.archive_schema.specs.check.Lists.{IsMore}
+use Rattle.archive_schema.specs.check.LoopInvariant.{Stage, stage, Ready, Listing, cost}
+use Rattle.archive_schema.specs.check.Runs.{Takes}
+use Rattle.archive_schema.specs.check.Turns.{TurnsFrom}
+use Rattle.archive_schema.specs.plan.SoundPlans.{IsSound}
+use Rattle.archive_schema.proofs.check.HollowRecords.{front_fit, last_fits, part_free}
+use Rattle.archive_schema.proofs.check.TurnExits.{turn_then, opens_record, opens_part}
+use Rattle.archive_schema.proofs.check.TurnInvariants.{record_fits, parts_ready, element_ready, element_leads, element_ends}
+
+none_met : Positions
+none_met position = None
+
+module _ {m : Checker} {s : RangeState} {old : List Work} {i p : ℕ} {h : Hollow} (sound : IsSound m) (ready : Ready m s (PartWork i p ∷ old)) (is : IsHollow m i h) where
+  -- the run is next
+  pub run_ready : Ready m s (PartWork h.node (p + h.offset) ∷ old)
+  run_ready = record { below = ready.below; fits = (last_fits sound is ready.fits.0, ready.fits.1) }
+
+  -- and what comes of it comes of the record
+  pub opens_hollow : {met : Positions} {y : Stage} {r : Option (Unit {0})} {fault : Error} → IsTrue h.is_free
+      → TurnsFrom m (Listing m) (cost m s.end (PartWork h.node (p + h.offset) ∷ old)) (stage s met (PartWork h.node (p + h.offset) ∷ old)) y r fault
+      → TurnsFrom m (Listing m) (cost m s.end (PartWork i p ∷ old)) (stage s met (PartWork i p ∷ old)) y r fault
+  opens_hollow free turn =
+      let parts = parts_ready ready (record_fits sound is.record_is ready.fits.0) in
+      let front = front_fit sound is ready.fits.0 in
+      opens_record sound ready is.record_is
+      (opens_part parts (λ k from to. part_free m p h.first h.end k front (is.free free) from to) is.order (omega arith) is.part (inr (omega arith, refl)) turn)
+
+module _ {m : Checker} {s : RangeState} {old rest : List Work} {j n p z : ℕ} (ready : Ready m s (Elements j n p ∷ old)) (takes : Takes m j z) (lt : 0 < n) (more : IsMore (Elements j (n - 1) (p + z)) (n - 1 ≡ 0) rest old) where
+  -- the first of some elements is next
+  pub first_ready : Ready m s (PartWork j p ∷ rest)
+  first_ready = element_ready m s none_met old rest j n p z takes.node ready lt takes.at (λ v q. let same : Some z ≡ Some v = sym takes.size_is ∙ q in cc) more
+
+  -- and what comes of it comes of them all
+  pub opens_first : {met : Positions} {y : Stage} {r : Option (Unit {0})} {fault : Error} → TurnsFrom m (Listing m) (cost m s.end (PartWork j p ∷ rest)) (stage s met (PartWork j p ∷ rest)) y r fault
+      → TurnsFrom m (Listing m) (cost m s.end (Elements j n p ∷ old)) (stage s met (Elements j n p ∷ old)) y r fault
+  opens_first {met = met} turn =
+      let falls = element_ends m s met old rest j n p (p + z) ready.fits.0.few lt more in
+      turn_then turn (omega (arith, falls)) (element_leads m s met old rest j n p z takes.node ready lt takes.at (λ v q. let same : Some z ≡ Some v = sym takes.size_is ∙ q in cc) more)
