@@ -403,6 +403,7 @@ impl<S: Writer + Keys + ResolverAlloc> SerializeUnsized<S> for Folder {
 
 // Reads a tuple back, part by part.
 #[cycle(read_folder)]
+#[inline(always)]
 fn read_pair_string_folder<D: Entries>(
     alloc: Global,
     part: RawView<'_>,
@@ -429,6 +430,7 @@ fn read_pair_string_folder<D: Entries>(
 
 // Reads a map back.
 #[cycle(read_folder)]
+#[inline(always)]
 fn read_map_string_folder<D: Entries>(
     alloc: Global,
     part: RawView<'_>,

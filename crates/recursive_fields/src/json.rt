@@ -669,7 +669,7 @@ fn read_vec_json<D: Entries>(
 
 // Reads the elements of a vector back.
 #[cycle(read_json)]
-#[inline(never)]
+#[inline(always)]
 fn read_each_json<D: Entries>(
     alloc: Global,
     part: RawView<'_>,
@@ -717,7 +717,7 @@ fn read_vec_member_type<D: Entries>(
 
 // Reads the elements of a vector back.
 #[cycle(read_json)]
-#[inline(never)]
+#[inline(always)]
 fn read_each_member_type<D: Entries>(
     alloc: Global,
     part: RawView<'_>,
@@ -805,6 +805,7 @@ fn read_json_text<D: Entries>(
 
 // Reads `List` back.
 #[cycle(read_json)]
+#[inline(never)]
 fn read_json_list<D: Entries>(
     alloc: Global,
     part: RawView<'_>,
@@ -827,6 +828,7 @@ fn read_json_list<D: Entries>(
 
 // Reads `Object` back.
 #[cycle(read_json)]
+#[inline(never)]
 fn read_json_object<D: Entries>(
     alloc: Global,
     part: RawView<'_>,

@@ -569,6 +569,7 @@ impl<S: Writer + Keys + ResolverAlloc> SerializeUnsized<S> for Note {
 
 // Reads a tuple back, part by part.
 #[cycle(read_note)]
+#[inline(always)]
 fn read_tuple3_string_note_option_string<D: Entries>(
     alloc: Global,
     part: RawView<'_>,
@@ -607,6 +608,7 @@ fn read_tuple3_string_note_option_string<D: Entries>(
 
 // Reads a vector back.
 #[cycle(read_note)]
+#[inline(always)]
 fn read_vec_tuple3_string_note_option_string<D: Entries>(
     alloc: Global,
     part: RawView<'_>,
@@ -688,6 +690,7 @@ fn read_note_work<D: Entries>(
 
 // Reads `Table` back.
 #[cycle(read_note)]
+#[inline(never)]
 fn read_note_table<D: Entries>(
     alloc: Global,
     part: RawView<'_>,
@@ -712,6 +715,7 @@ fn read_note_table<D: Entries>(
 
 // Reads a value back.
 #[cycle(read_note)]
+#[inline(always)]
 fn read_note<D: Entries>(
     alloc: Global,
     part: RawView<'_>,

@@ -432,6 +432,7 @@ impl<S: Writer + Keys + ResolverAlloc> SerializeUnsized<S> for Bush {
 
 // Reads a box back.
 #[cycle(read_bush)]
+#[inline(always)]
 fn read_box_bush<D: Entries>(
     alloc: Global,
     part: RawView<'_>,
@@ -454,6 +455,7 @@ fn read_box_bush<D: Entries>(
 
 // Reads an option back.
 #[cycle(read_bush)]
+#[inline(always)]
 fn read_option_box_bush<D: Entries>(
     alloc: Global,
     part: RawView<'_>,
@@ -478,6 +480,7 @@ fn read_option_box_bush<D: Entries>(
 
 // Reads a vector back.
 #[cycle(read_bush)]
+#[inline(always)]
 fn read_vec_option_box_bush<D: Entries>(
     alloc: Global,
     part: RawView<'_>,
@@ -507,6 +510,7 @@ fn read_vec_option_box_bush<D: Entries>(
 
 // Reads a vector back.
 #[cycle(read_bush)]
+#[inline(always)]
 fn read_vec_box_bush<D: Entries>(
     alloc: Global,
     part: RawView<'_>,

@@ -510,6 +510,7 @@ impl<S: Writer + Keys + ResolverAlloc<Alloc = Global>> SerializeUnsized<S> for R
 
 // Reads a boxed slice back.
 #[cycle(read_rule)]
+#[inline(always)]
 fn read_box_slice_rule<D: Entries>(
     alloc: Global,
     part: RawView<'_>,

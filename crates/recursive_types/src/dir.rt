@@ -366,7 +366,7 @@ fn read_vec_entry<D: Entries>(
 
 // Reads the elements of a vector back.
 #[cycle(read_dir)]
-#[inline(never)]
+#[inline(always)]
 fn read_each_entry<D: Entries>(
     alloc: Global,
     part: RawView<'_>,
@@ -835,6 +835,7 @@ impl<S: Writer + Keys + ResolverAlloc> SerializeUnsized<S> for Entry {
 
 // Reads a box back.
 #[cycle(read_dir)]
+#[inline(always)]
 fn read_box_dir<D: Entries>(
     alloc: Global,
     part: RawView<'_>,

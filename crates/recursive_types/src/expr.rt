@@ -490,6 +490,7 @@ impl<S: Writer + Keys + ResolverAlloc> SerializeUnsized<S> for Expr {
 
 // Reads a box back.
 #[cycle(read_expr)]
+#[inline(always)]
 fn read_box_expr<D: Entries>(
     alloc: Global,
     part: RawView<'_>,
@@ -533,7 +534,7 @@ fn read_vec_expr<D: Entries>(
 
 // Reads the elements of a vector back.
 #[cycle(read_expr)]
-#[inline(never)]
+#[inline(always)]
 fn read_each_expr<D: Entries>(
     alloc: Global,
     part: RawView<'_>,
@@ -582,6 +583,7 @@ fn read_expr_num<D: Entries>(
 
 // Reads `Add` back.
 #[cycle(read_expr)]
+#[inline(never)]
 fn read_expr_add<D: Entries>(
     alloc: Global,
     part: RawView<'_>,
@@ -609,6 +611,7 @@ fn read_expr_add<D: Entries>(
 
 // Reads `Call` back.
 #[cycle(read_expr)]
+#[inline(never)]
 fn read_expr_call<D: Entries>(
     alloc: Global,
     part: RawView<'_>,

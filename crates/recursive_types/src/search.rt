@@ -319,6 +319,7 @@ impl<S: Writer + Keys + ResolverAlloc> SerializeUnsized<S> for Search {
 
 // Reads a box back.
 #[cycle(read_search)]
+#[inline(always)]
 fn read_box_search<D: Entries>(
     alloc: Global,
     part: RawView<'_>,
@@ -341,6 +342,7 @@ fn read_box_search<D: Entries>(
 
 // Reads an option back.
 #[cycle(read_search)]
+#[inline(always)]
 fn read_option_box_search<D: Entries>(
     alloc: Global,
     part: RawView<'_>,

@@ -487,7 +487,7 @@ fn read_vec_stmt<D: Entries>(
 
 // Reads the elements of a vector back.
 #[cycle(read_stmt)]
-#[inline(never)]
+#[inline(always)]
 fn read_each_stmt<D: Entries>(
     alloc: Global,
     part: RawView<'_>,
@@ -545,6 +545,7 @@ fn read_stmt_set<D: Entries>(
 
 // Reads `Block` back.
 #[cycle(read_stmt)]
+#[inline(never)]
 fn read_stmt_block<D: Entries>(
     alloc: Global,
     part: RawView<'_>,

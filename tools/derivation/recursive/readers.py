@@ -2,6 +2,7 @@
 
 from . import weak
 from . import arrays
+from . import frames
 from . import maps
 from . import slices
 from .reads import is_made, skips_none, word_of
@@ -88,7 +89,7 @@ def owner_reading(it, type):
         body = parts_read(it, row) + statement(4, "Ok(", Group("(", row.names, ")"), ")")
     elif arrays.is_array(type):
         T = f"Vec<{it.formats.rust(item)}>"
-        return reader(it, it.word(type), T, arrays.read_contract(it, type), arrays.reading(it, type), "Reads the elements of an array back.")
+        return reader(it, it.word(type), T, arrays.read_contract(it, type), arrays.reading(it, type), "Reads the elements of an array back.", inlined=frames.of_owner(it, type))
     elif is_map(type):
         body = maps.reading(it, type, code.inside)
     elif type.name == "Shared":
@@ -148,11 +149,12 @@ def owner_reading(it, type):
     }}
     Ok({made})
 """
+    inlined = frames.of_owner(it, type)
     if skips_none(it, type):
-        return none_reading(it, type) + "\n" + reader(it, f"each_{it.word(item)}", T, read_contract(it, type), body, "Reads the elements of a vector back.", inlined=code.NEVER)
+        return none_reading(it, type) + "\n" + reader(it, f"each_{it.word(item)}", T, read_contract(it, type), body, "Reads the elements of a vector back.", inlined=inlined)
     whats = {"Box": "a box", "BoxSlice": "a boxed slice", "Option": "an option", "Vec": "a vector", "BTreeMap": "a map", "Shared": "a shared value", "WeakShared": "a weak pointer"}
     told = "Reads a tuple back, part by part." if type.name == "tuple" else f"Reads {whats[type.name]} back."
-    return reader(it, it.word(type), T, read_contract(it, type), body, told)
+    return reader(it, it.word(type), T, read_contract(it, type), body, told, inlined=inlined)
 
 
 def none_reading(it, type):
@@ -164,12 +166,6 @@ def none_reading(it, type):
     read_each_{it.word(type.args[0])}(alloc, part, deserializer)
 """
     return reader(it, it.word(type), it.formats.rust(type), read_contract(it, type), body, "Reads a vector back. One with no elements takes no call, whose result would go through memory.", inlined=code.ALWAYS)
-
-
-def is_element(it):
-    """Whether vectors of it are read back with no call where they have no elements."""
-    owners = [(other, type) for other in it.family.members for type in other.owners]
-    return any(skips_none(other, type) and type.args[0].own is it.declaration for other, type in owners)
 
 
 def parts_read(it, case):
@@ -200,7 +196,7 @@ def case_reading(it, case):
     contract_ = f"    requires viewed {{ IsPartOf ⟦<{it.archived} as ArchivePointee>⟧ part }}\n    requires tag {{ part_tag part ≡ {case.tag} }}\n"
     contract_ += "".join(code.READ.format(T=it.name, X=it.archived).splitlines(True)[1:])
     body = parts_read(it, case) + statement(4, "Ok(", built(it, case), ")")
-    text_ = reader(it, case.n, it.name, contract_, body, f"Reads `{case.name}` back.", any(case.leads_back))
+    text_ = reader(it, case.n, it.name, contract_, body, f"Reads `{case.name}` back.", any(case.leads_back), frames.of_case(it, case))
     return text_ if case.count else text_.replace("(alloc: Global", "(_alloc: Global").replace("deserializer", "_deserializer")
 
 
@@ -211,7 +207,7 @@ def choice_reading(it):
         levels = "levels, " if it.family.shares and any(case.leads_back) else ""
         arms += f"        {tag} => read_{case.n}(alloc, part, {levels}deserializer),\n"
     body = f"{one_level(it)}    match tag_of_choice::<{it.archived}>(part) {{\n{arms}    }}\n"
-    return reader(it, it.n, it.name, code.READ.format(T=it.name, X=it.archived), body, "Reads a value back.", not it.is_holder, code.ALWAYS if is_element(it) else "")
+    return reader(it, it.n, it.name, code.READ.format(T=it.name, X=it.archived), body, "Reads a value back.", not it.is_holder, frames.of_value(it))
 
 
 def one_level(it):
@@ -222,7 +218,7 @@ def one_level(it):
 def record_reading(it):
     case = it.cases[0]
     body = one_level(it) + parts_read(it, case) + statement(4, "Ok(", built(it, case), ")")
-    return reader(it, it.n, it.name, code.READ.format(T=it.name, X=it.archived), body, "Reads a value back, part by part.", not it.is_holder, code.ALWAYS if is_element(it) else "")
+    return reader(it, it.n, it.name, code.READ.format(T=it.name, X=it.archived), body, "Reads a value back, part by part.", not it.is_holder, frames.of_value(it))
 
 
 def deserialize(it):
