@@ -220,6 +220,29 @@ fn serialize_each_tree<S: Writer + Keys + ResolverAlloc>(
     Ok(resolvers)
 }
 
+// The same by a call, in a level of a tree: the room for its result is taken only while it lasts.
+#[cycle(serialize_tree)]
+#[inline(always)]
+fn serialize_some_tree<S: Writer + Keys + ResolverAlloc>(
+    values: &[Tree],
+    serializer: &mut S,
+) -> Result<Vec<<Tree as Archive>::Resolver, S::Alloc>, Error>
+    ensures serialized { IfOk result (λ rs. SerializedRun tree_definitions tree_shape
+        (length values.now) (each_keys ⟦<Tree as Archive>⟧.keys values.now)
+        (each_meaning ⟦<Tree as Archive>⟧.meaning values.now)
+        (each_flat ⟦<Tree as Archive>⟧.flat values.now rs.items) (S.state serializer.old)
+        (S.state serializer.new)) }
+    ensures same_values { IfOk result (λ rs. EachBelongs ⟦<Tree as Archive>⟧.belongs values.now
+        rs.items) }
+    ensures goes_on { GoesOn (S.state serializer.old) (S.state serializer.new) }
+    ensures refused { IfErr result (IsRunRefused tree_definitions tree_shape (length values.now)
+        (each_keys ⟦<Tree as Archive>⟧.keys values.now)
+        (each_meaning ⟦<Tree as Archive>⟧.meaning values.now) (S.state serializer.old)
+        (S.state serializer.new)) }
+{
+    serialize_each_tree(values, serializer)
+}
+
 // Writes what a vector owns.
 #[cycle(serialize_tree)]
 #[inline(always)]
@@ -248,7 +271,7 @@ fn serialize_vec_tree<S: Writer + Keys + ResolverAlloc>(
             Err(error) => Err(error),
         };
     }
-    let kept = match serialize_each_tree(items, serializer) {
+    let kept = match serialize_some_tree(items, serializer) {
         Ok(kept) => kept,
         Err(error) => return Err(error),
     };

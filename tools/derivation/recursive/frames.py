@@ -1,4 +1,4 @@
-"""Which functions that read a value back are calls, so that a level of a value takes one frame of the machine's stack: in each there is room for a result, of which an
+"""Which functions that write and read a value back are calls, so that a level of a value takes one frame of the machine's stack: in each there is room for a result, of which an
 error takes 72 bytes. Where a part is read in line, its room is given to the next part."""
 
 from . import code
@@ -55,3 +55,33 @@ def reaches(it, types, is_sought, ends=lambda it, case: False):
         return any(leads(inner) for case in member.cases if not ends(member, case) for inner in case.types)
 
     return any(map(leads, types))
+
+
+# ---- writing ----
+
+
+def some(it, item):
+    """The function that writes what the elements of a vector own, for the vector."""
+    return f"serialize_some_{it.word(item)}" if it.is_tree else f"serialize_each_{it.word(item)}"
+
+
+def some_writing(it, item, run):
+    if not it.is_tree:
+        return ""
+    its = it.formats.rust(item)
+    return f"""// The same by a call, in a level of a tree: the room for its result is taken only while it lasts.
+#[cycle(serialize_{it.family.n})]
+#[inline(always)]
+fn {some(it, item)}<{it.writer}>(values: &[{its}], serializer: &mut S) -> Result<Vec<<{its} as Archive>::Resolver, S::Alloc>, Error>
+    ensures serialized {{ IfOk result (λ rs. SerializedRun {run}
+        (each_flat ⟦<{its} as Archive>⟧.flat values.now rs.items) (S.state serializer.old)
+        (S.state serializer.new)) }}
+    ensures same_values {{ IfOk result (λ rs. EachBelongs ⟦<{its} as Archive>⟧.belongs values.now rs.items) }}
+    ensures goes_on {{ GoesOn (S.state serializer.old) (S.state serializer.new) }}
+    ensures refused {{ IfErr result (IsRunRefused {run}
+        (S.state serializer.old) (S.state serializer.new)) }}
+{{
+    serialize_each_{it.word(item)}(values, serializer)
+}}
+
+"""

@@ -1,6 +1,6 @@
 """Proofs that recursive types are written as they say."""
 
-from . import arrays
+from . import arrays, frames
 from . import map_proofs, weak, writers
 from ..common import numbered
 from . import proofs, element_proofs
@@ -266,7 +266,7 @@ def answered(answers, function, its, some, as_written="{}", as_refused="{}"):
 
 def run_owner_written(it, type, answers):
     item = type.args[0]
-    each, function = f"serialize_each_{it.word(item)}", f"serialize_{it.word(type)}"
+    each, function = frames.some(it, item), f"serialize_{it.word(type)}"
     D, X, t = it.terms.definitions(item), it.terms.shape(item), it.terms
     k, m = (t.own(which)[item.own.name] if t.is_member(item) else t.function(which, item, t.own(which)) for which in ("keys", "meaning"))
     items = "c.args.value.now.items"

@@ -1,6 +1,7 @@
 """What writes values of recursive types: what each owner, variant and record owns, in order."""
 
 from . import arrays
+from . import frames
 from . import maps
 from . import slices
 from . import tuples
@@ -195,7 +196,7 @@ def each_writing(it, item):
     Ok(resolvers)
 }}
 
-"""
+""" + frames.some_writing(it, item, run)
 
 
 def boxed_contract(it, type):
@@ -225,7 +226,7 @@ def run_writing(it, type):
         return Err(Error::LengthTooLarge);
     }}
     let items = value.as_slice();
-{of_no_elements(it, region)}    let kept = match serialize_each_{it.word(type.args[0])}(items, serializer) {{
+{of_no_elements(it, region)}    let kept = match {frames.some(it, type.args[0])}(items, serializer) {{
         Ok(kept) => kept,
         Err(error) => return Err(error),
     }};

@@ -56,20 +56,20 @@ serialize_vec_tree-returns-in-Ok-clause-serialized g t c = (rw (c.as_slice-items
 pub serialize_vec_tree-returns-in-Err-clause-refused : goal.serialize_vec_tree-returns-in-Err-clause-refused
 serialize_vec_tree-returns-in-Err-clause-refused g t c = (rw (c.as_slice-items.ensures.value, c.new-none.ensures.items) at c.in-Err.ensures.refused).since _ (goes_nowhere _) (continues_end tree_definitions tree_shape tree_keys tree_meaning tree_flat tree_belongs _ c.args.value.now.items _ c.args.value.now.items [] (let none : length c.args.value.now.items ≡ 0 = grind (arith, common_steps, c.is_empty.ensures, c.if-is_empty.true, c.as_slice-items.ensures.value) in drop_of_length-le c.args.value.now.items {i = 0} (omega (arith, none))) (continues_start tree_definitions tree_shape tree_keys tree_meaning tree_flat tree_belongs _ c.args.value.now.items))
 
-pub serialize_vec_tree-returns-in-Err-serialize_each_tree-clause-refused : goal.serialize_vec_tree-returns-in-Err-serialize_each_tree-clause-refused
-serialize_vec_tree-returns-in-Err-serialize_each_tree-clause-refused g t c = vec_refused tree_definitions tree_shape (length c.args.value.now.items) (each_keys tree_keys c.args.value.now.items) (list (each_meaning tree_meaning c.args.value.now.items)) _ _ _ (run_owned tree_definitions tree_shape (length c.args.value.now.items) (each_keys tree_keys c.args.value.now.items) (each_meaning tree_meaning c.args.value.now.items) _ _ _ (rw c.as_slice-items.ensures.value at c.in-Err-serialize_each_tree.ensures.refused))
+pub serialize_vec_tree-returns-in-Err-serialize_some_tree-clause-refused : goal.serialize_vec_tree-returns-in-Err-serialize_some_tree-clause-refused
+serialize_vec_tree-returns-in-Err-serialize_some_tree-clause-refused g t c = vec_refused tree_definitions tree_shape (length c.args.value.now.items) (each_keys tree_keys c.args.value.now.items) (list (each_meaning tree_meaning c.args.value.now.items)) _ _ _ (run_owned tree_definitions tree_shape (length c.args.value.now.items) (each_keys tree_keys c.args.value.now.items) (each_meaning tree_meaning c.args.value.now.items) _ _ _ (rw c.as_slice-items.ensures.value at c.in-Err-serialize_some_tree.ensures.refused))
 
 pub serialize_vec_tree-returns-in-Ok-serialize_inner_slice-clause-serialized : goal.serialize_vec_tree-returns-in-Ok-serialize_inner_slice-clause-serialized
-serialize_vec_tree-returns-in-Ok-serialize_inner_slice-clause-serialized g t c = (rw c.as_slice-items.ensures.value at c.in-Ok-serialize_inner_slice.ensures.listed).since _ c.serialize_each_tree.ensures.goes_on (rw c.as_slice-items.ensures.value at c.in-Ok-serialize_each_tree.ensures.serialized)
+serialize_vec_tree-returns-in-Ok-serialize_inner_slice-clause-serialized g t c = (rw c.as_slice-items.ensures.value at c.in-Ok-serialize_inner_slice.ensures.listed).since _ c.serialize_some_tree.ensures.goes_on (rw c.as_slice-items.ensures.value at c.in-Ok-serialize_some_tree.ensures.serialized)
 
 pub serialize_vec_tree-returns-in-Ok-serialize_inner_slice-clause-goes_on : goal.serialize_vec_tree-returns-in-Ok-serialize_inner_slice-clause-goes_on
-serialize_vec_tree-returns-in-Ok-serialize_inner_slice-clause-goes_on g t c = (goes_both _ _ _ c.serialize_each_tree.ensures.goes_on c.serialize_inner_slice-2.ensures.goes_on)
+serialize_vec_tree-returns-in-Ok-serialize_inner_slice-clause-goes_on g t c = (goes_both _ _ _ c.serialize_some_tree.ensures.goes_on c.serialize_inner_slice-2.ensures.goes_on)
 
 pub serialize_vec_tree-returns-in-Err-serialize_inner_slice-clause-goes_on : goal.serialize_vec_tree-returns-in-Err-serialize_inner_slice-clause-goes_on
-serialize_vec_tree-returns-in-Err-serialize_inner_slice-clause-goes_on g t c = (goes_both _ _ _ c.serialize_each_tree.ensures.goes_on c.serialize_inner_slice-2.ensures.goes_on)
+serialize_vec_tree-returns-in-Err-serialize_inner_slice-clause-goes_on g t c = (goes_both _ _ _ c.serialize_some_tree.ensures.goes_on c.serialize_inner_slice-2.ensures.goes_on)
 
 pub serialize_vec_tree-returns-in-Err-serialize_inner_slice-clause-refused : goal.serialize_vec_tree-returns-in-Err-serialize_inner_slice-clause-refused
-serialize_vec_tree-returns-in-Err-serialize_inner_slice-clause-refused g t c = (rw c.as_slice-items.ensures.value at c.in-Err-serialize_inner_slice.ensures.refused).since _ c.serialize_each_tree.ensures.goes_on (rw c.as_slice-items.ensures.value at c.in-Ok-serialize_each_tree.ensures.serialized)
+serialize_vec_tree-returns-in-Err-serialize_inner_slice-clause-refused g t c = (rw c.as_slice-items.ensures.value at c.in-Err-serialize_inner_slice.ensures.refused).since _ c.serialize_some_tree.ensures.goes_on (rw c.as_slice-items.ensures.value at c.in-Ok-serialize_some_tree.ensures.serialized)
 
 pub serialize_tree-returns-in-Err-clause-refused : goal.serialize_tree-returns-in-Err-clause-refused
 serialize_tree-returns-in-Err-clause-refused g t c = (refused_as (tree_has_keys c.args.value.now) (tree_means c.args.value.now) (record_refused tree_definitions tree_shape tree_part_definitions tree_parts tree_has_parts _ _ _ _ _ (first_refused no_definition (both tree_definitions no_definition) (leaf (number_kind unsigned w32)) (part (vec tree_shape) no_part) [] ((each_keys tree_keys (out-Tree c.args.value.now).children.items) ++ []) (number (pos (out-Tree c.args.value.now).value)) (value (list (each_meaning tree_meaning (out-Tree c.args.value.now).children.items)) no_value) _ _ _ (part_planned tree_definitions (vec tree_shape) (each_keys tree_keys (out-Tree c.args.value.now).children.items) (list (each_meaning tree_meaning (out-Tree c.args.value.now).children.items)) (vec_planned tree_definitions tree_shape _ _ _ (slice_planned tree_definitions tree_shape tree_keys tree_meaning tree_planned (out-Tree c.args.value.now).children.items)) no_part_planned) c.in-Err.ensures.refused)))
