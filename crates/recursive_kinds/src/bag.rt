@@ -5,6 +5,8 @@ use archive_core::rc::SharedSlice;
 /// A bag; several may hold the same bags.
 #[derive(Drop)]
 pub struct Bag {
+    /// The bag that lies on top, if any.
+    pub top: Option<Box<Bag>>,
     /// The bags in it.
     pub inside: SharedSlice<Bag>,
 }
@@ -14,10 +16,12 @@ pub struct Bag {
 ghost use Rattle.archive_core.specs.Arrays.{named_twice, no_two, twice_keyed};
 ghost use Rattle.archive_core.specs.CallOutcomes.{ResolvesAs};
 ghost use Rattle.archive_core.specs.Causes.{IsRefused};
+ghost use Rattle.archive_core.specs.Choices.{option_shape};
 ghost use Rattle.archive_core.specs.Entries.{ReadsBack};
 ghost use Rattle.archive_core.specs.Error.TheVariants.{OutOfMemory};
 ghost use Rattle.archive_core.specs.Expressed.{ExpressesParts};
 ghost use Rattle.archive_core.specs.Fields.{field_in};
+ghost use Rattle.archive_core.specs.Hollow.{option_at};
 ghost use Rattle.archive_core.specs.PlannedOwners.{is_long, one_planned};
 ghost use Rattle.archive_core.specs.Plans.{Serialized};
 ghost use Rattle.archive_core.specs.Pooled.{Entries as Known};
@@ -28,7 +32,7 @@ ghost use Rattle.archive_core.specs.Runs.{EachBelongs, IsRunRefused, SerializedR
 ghost use Rattle.archive_core.specs.SealOutcomes.{IsSealOf, SealsPart};
 ghost use Rattle.archive_core.specs.Seen.{IsPartOf, ReadsPart, RefusesPart, ShowsValueOf};
 ghost use Rattle.archive_core.specs.SelfCheck.Laws.{by_schema};
-ghost use Rattle.archive_core.specs.Shape.{one, part, parts, run, shared};
+ghost use Rattle.archive_core.specs.Shape.{boxed, one, part, parts, run, shared};
 ghost use Rattle.archive_core.specs.SharedSources.{rc_flat, rc_flavor, rc_keys};
 ghost use Rattle.archive_core.specs.Value.{list, shared_value, value};
 ghost use Rattle.archive_core.specs.Viewed.{Viewed};
@@ -36,17 +40,20 @@ ghost use Rattle.archive_core.specs.Writing.{ZeroedPlace};
 ghost use Rattle.archive_core.specs.Written.{GoesOn};
 ghost use Rattle.recursive_kinds.specs.BagShape.{bag_definitions, bag_has_layout, bag_has_parts, bag_is_align, bag_layout, bag_no_others, bag_parts, bag_shape};
 ghost use Rattle.std.proofs.Common.{lit≤};
-ghost use Rattle.std.specs.Prelude.{IfErr, IfNone, IfOk, IfSome, List, None, Some, length, refl, ℕ, ◌+◌, ◌≡◌, ◌≤◌};
+ghost use Rattle.std.specs.Prelude.{IfErr, IfNone, IfOk, IfSome, List, None, Some, length, refl, ℕ, ⊤, ◌+◌, ◌≡◌, ◌≤◌};
 
+use archive_core::boxed::{ArchivedBox, BoxResolver};
 use archive_core::error::Error;
+use archive_core::option::ArchivedOption;
 use archive_core::place::Place;
 use archive_core::pooling::{Pooled, Pooling, PoolingState};
 use archive_core::primitive::ArchivedUsize;
 use archive_core::rc::{ArchivedRc, RcFlavor, RcResolver};
 use archive_core::recursive::{
-    begin_shared_slice, define_record, finish_shared_slice, first_expression, handed_on,
-    named_expression, no_expressions, part_of_record, resolve_named_record_1, seal_of_field,
-    shared_run_expression, view_of_field,
+    OptionAt, before_box, begin_shared_slice, boxed_expression, define_record, finish_shared_slice,
+    first_expression, handed_on, named_expression, no_expressions, option_expression,
+    part_of_record, resolve_named_record_2, seal_of_field, serialize_inner, shared_run_expression,
+    view_of_field,
 };
 use archive_core::seal::Seal;
 use archive_core::self_check::BySchema;
@@ -61,10 +68,13 @@ use archive_core::traits::{
 use archive_core::view::{RawView, Ref};
 use std::alloc::{AllocError, Global};
 
-/// An archived `Bag`: 8 bytes at a multiple of 4. It is validated by its schema.
+/// An archived `Bag`: 16 bytes at a multiple of 4. It is validated by its schema.
 pub struct ArchivedBag;
 
-type BagParts = (ArchivedRc<ArchivedSlice<ArchivedBag>, RcFlavor>, ());
+type BagParts = (
+    ArchivedOption<ArchivedBox<ArchivedBag>>,
+    (ArchivedRc<ArchivedSlice<ArchivedBag>, RcFlavor>, ()),
+);
 
 impl ArchivePointee for ArchivedBag {
     type ArchivedMetadata = ();
@@ -84,9 +94,16 @@ impl ArchivePointee for ArchivedBag {
 fn bag_expressions(alloc: Global) -> Result<Vec<archive_core::shape::Expr>, AllocError>
     ensures { ExpressesParts bag_parts result }
 {
-    let rest1 = no_expressions(alloc);
-    first_expression(
+    let rest2 = no_expressions(alloc);
+    let rest1 = first_expression(
         shared_run_expression(alloc, named_expression("ArchivedBag")),
+        rest2,
+    );
+    first_expression(
+        option_expression(
+            alloc,
+            boxed_expression(alloc, named_expression("ArchivedBag")),
+        ),
         rest1,
     )
 }
@@ -109,7 +126,7 @@ impl Portable for ArchivedBag {
     ghost checks = { λ direct. by_schema direct };
 
     fn size() -> usize {
-        8
+        16
     }
 
     fn align() -> usize {
@@ -136,7 +153,7 @@ impl Record for ArchivedBag {
 /// What is kept of `Bag` between `serialize` and `resolve`.
 #[derive(Drop)]
 pub struct BagResolver {
-    kept: (RcResolver, ()),
+    kept: (Option<BoxResolver>, (RcResolver, ())),
 }
 
 // The shared value at a position, if the pool has it; none if the position was unknown: then the caller reads it back, and calls `finish_target`.
@@ -297,17 +314,23 @@ impl Archive for Bag {
         resolver: Self::Resolver,
         place: Place<'_, Self::Archived>,
     ) -> Result<(), Error>
-        requires zeroed { ZeroedPlace 8 place.pos place.bytes.now }
+        requires zeroed { ZeroedPlace 16 place.pos place.bytes.now }
         requires same_value { ⟦<Self as Archive>⟧.belongs self.now resolver }
         ensures { ResolvesAs ⟦<Self::Archived as Portable>⟧ place
             (⟦<Self as Archive>⟧.flat self.now resolver) result }
     {
         let Place { bytes, pos, .. } = place;
         let BagResolver { kept } = resolver;
-        let h0: SharedSliceBagAt = SharedSliceBagAt {
+        let h0: OptionAt<ArchivedBag> = OptionAt::new();
+        let h1: SharedSliceBagAt = SharedSliceBagAt {
             len: self.inside.value.len(),
         };
-        resolve_named_record_1::<SharedSliceBagAt, ArchivedBag>(&h0, kept, Place::new(pos, bytes))
+        resolve_named_record_2::<OptionAt<ArchivedBag>, SharedSliceBagAt, ArchivedBag>(
+            &h0,
+            &h1,
+            kept,
+            Place::new(pos, bytes),
+        )
     }
 
     #[inline(always)]
@@ -322,6 +345,39 @@ impl Archive for Bag {
         _serializer: &mut S,
     ) -> Result<Option<usize>, Error> {
         Ok(None)
+    }
+}
+
+// Writes what an option owns.
+#[cycle(serialize_bag)]
+fn serialize_option_box_bag<S: Sharing + Writer + ResolverAlloc>(
+    value: &Option<Box<Bag>>,
+    serializer: &mut S,
+) -> Result<Option<BoxResolver>, Error>
+    ensures serialized { IfOk result (λ r. Serialized bag_definitions
+        (option_shape (boxed (one bag_shape))) (⟦<Option<Box<Bag>> as Archive>⟧.keys value.now)
+        (⟦<Option<Box<Bag>> as Archive>⟧.meaning value.now) (option_at (one bag_shape) r)
+        (S.state serializer.old) (S.state serializer.new)) }
+    ensures same_value { IfOk result (λ r. ⊤) }
+    ensures goes_on { GoesOn (S.state serializer.old) (S.state serializer.new) }
+    ensures refused { IfErr result (IsRefused bag_definitions (option_shape (boxed (one bag_shape)))
+        (⟦<Option<Box<Bag>> as Archive>⟧.keys value.now)
+        (⟦<Option<Box<Bag>> as Archive>⟧.meaning value.now) (S.state serializer.old)
+        (S.state serializer.new)) }
+{
+    match value {
+        None => Ok(None),
+        Some(whole) => {
+            let inner = &**whole;
+            let kept = match serialize_bag(inner, serializer) {
+                Ok(kept) => kept,
+                Err(error) => return Err(handed_on(error)),
+            };
+            match serialize_inner(inner, kept, serializer) {
+                Ok(at) => Ok(Some(at)),
+                Err(error) => Err(error),
+            }
+        }
     }
 }
 
@@ -410,12 +466,18 @@ fn serialize_bag<S: Sharing + Writer + ResolverAlloc>(
         (⟦<Bag as Archive>⟧.keys value.now) (⟦<Bag as Archive>⟧.meaning value.now)
         (S.state serializer.old) (S.state serializer.new)) }
 {
-    let items = value.inside.value.as_slice();
-    let a0 = match serialize_shared_slice_bag(value.inside.key, items, serializer) {
+    let a0 = match serialize_option_box_bag(&value.top, serializer) {
         Ok(a0) => a0,
         Err(error) => return Err(error),
     };
-    Ok(BagResolver { kept: (a0, ()) })
+    let items = value.inside.value.as_slice();
+    let a1 = match serialize_shared_slice_bag(value.inside.key, items, serializer) {
+        Ok(a1) => a1,
+        Err(error) => return Err(error),
+    };
+    Ok(BagResolver {
+        kept: (a0, (a1, ())),
+    })
 }
 
 impl<S: Sharing + Writer + ResolverAlloc> Serialize<S> for Bag {
@@ -454,6 +516,54 @@ impl<S: Sharing + Writer + ResolverAlloc> SerializeUnsized<S> for Bag {
     #[inline(always)]
     fn serialize_unsized(&self, serializer: &mut S) -> Result<usize, Error> {
         serialize_one(self, serializer)
+    }
+}
+
+// Reads a box back.
+#[cycle(read_bag)]
+fn read_box_bag<D: Pooling<SharedSlice<Bag>>>(
+    alloc: Global,
+    part: RawView<'_>,
+    levels: usize,
+    deserializer: &mut D,
+) -> Result<Box<Bag>, Error>
+    requires { IsPartOf ⟦<ArchivedBox<ArchivedBag> as ArchivePointee>⟧ part }
+    ensures read { IfOk result (Read ⟦<ArchivedBox<ArchivedBag> as ArchivePointee>⟧ part D.Entries
+        deserializer ⟦<Box<Bag> as Archive>⟧) }
+    ensures refused { IfErr result (RefusesPart ⟦<ArchivedBox<ArchivedBag> as ArchivePointee>⟧ part
+        D.Entries deserializer) }
+{
+    let view: Ref<'_, ArchivedBox<ArchivedBag>> = Ref::at(part);
+    let value = match read_bag(alloc, before_box(view).part(), levels, deserializer) {
+        Ok(value) => value,
+        Err(error) => return Err(error),
+    };
+    let whole = Box::new(alloc, value)?;
+    Ok(whole)
+}
+
+// Reads an option back.
+#[cycle(read_bag)]
+fn read_option_box_bag<D: Pooling<SharedSlice<Bag>>>(
+    alloc: Global,
+    part: RawView<'_>,
+    levels: usize,
+    deserializer: &mut D,
+) -> Result<Option<Box<Bag>>, Error>
+    requires { IsPartOf ⟦<ArchivedOption<ArchivedBox<ArchivedBag>> as ArchivePointee>⟧ part }
+    ensures read { IfOk result (Read ⟦<ArchivedOption<ArchivedBox<ArchivedBag>> as ArchivePointee>⟧
+        part D.Entries deserializer ⟦<Option<Box<Bag>> as Archive>⟧) }
+    ensures refused { IfErr result
+        (RefusesPart ⟦<ArchivedOption<ArchivedBox<ArchivedBag>> as ArchivePointee>⟧ part D.Entries
+        deserializer) }
+{
+    let view: Ref<'_, ArchivedOption<ArchivedBox<ArchivedBag>>> = Ref::at(part);
+    match view.as_ref() {
+        None => Ok(None),
+        Some(inner) => match read_box_bag(alloc, inner.part(), levels, deserializer) {
+            Ok(value) => Ok(Some(value)),
+            Err(error) => Err(error),
+        },
     }
 }
 
@@ -531,14 +641,22 @@ fn read_bag<D: Pooling<SharedSlice<Bag>>>(
         return Err(Error::OutOfMemory);
     }
     let levels = levels - 1;
-    let p0 = part_of_record::<ArchivedBag, ArchivedRc<ArchivedSlice<ArchivedBag>, RcFlavor>>(
-        part, 0, 0,
-    );
-    let a0 = match read_shared_slice_bag(alloc, p0, levels, deserializer) {
+    let p0 = part_of_record::<ArchivedBag, ArchivedOption<ArchivedBox<ArchivedBag>>>(part, 0, 0);
+    let a0 = match read_option_box_bag(alloc, p0, levels, deserializer) {
         Ok(a0) => a0,
         Err(error) => return Err(error),
     };
-    Ok(Bag { inside: a0 })
+    let p1 = part_of_record::<ArchivedBag, ArchivedRc<ArchivedSlice<ArchivedBag>, RcFlavor>>(
+        part, 1, 8,
+    );
+    let a1 = match read_shared_slice_bag(alloc, p1, levels, deserializer) {
+        Ok(a1) => a1,
+        Err(error) => return Err(error),
+    };
+    Ok(Bag {
+        top: a0,
+        inside: a1,
+    })
 }
 
 impl<D: Pooling<SharedSlice<Bag>>> Deserialize<Bag, D> for ArchivedBag {
@@ -559,18 +677,30 @@ impl<D: Pooling<SharedSlice<Bag>>> Deserialize<Bag, D> for ArchivedBag {
 
 /// The fields of an archived `Bag`, as views.
 pub trait BagView<'a> {
+    /// The bag that lies on top, if any.
+    fn top(self) -> Ref<'a, ArchivedOption<ArchivedBox<ArchivedBag>>>;
+
     /// The bags in it.
     fn inside(self) -> Ref<'a, ArchivedRc<ArchivedSlice<ArchivedBag>, RcFlavor>>;
 }
 
 impl<'a> BagView<'a> for Ref<'a, ArchivedBag> {
-    fn inside(self) -> Ref<'a, ArchivedRc<ArchivedSlice<ArchivedBag>, RcFlavor>>
+    fn top(self) -> Ref<'a, ArchivedOption<ArchivedBox<ArchivedBag>>>
         ensures buffer { result.bytes.now ≡ self.entry.bytes.now }
         ensures position { result.pos ≡ self.entry.pos + 0 }
         ensures length { result.len ≡ 0 }
         ensures shows { ShowsValueOf result self.entry (field_in 0) }
     {
-        view_of_field::<ArchivedBag, ArchivedRc<ArchivedSlice<ArchivedBag>, RcFlavor>>(self, 0, 0)
+        view_of_field::<ArchivedBag, ArchivedOption<ArchivedBox<ArchivedBag>>>(self, 0, 0)
+    }
+
+    fn inside(self) -> Ref<'a, ArchivedRc<ArchivedSlice<ArchivedBag>, RcFlavor>>
+        ensures buffer { result.bytes.now ≡ self.entry.bytes.now }
+        ensures position { result.pos ≡ self.entry.pos + 8 }
+        ensures length { result.len ≡ 0 }
+        ensures shows { ShowsValueOf result self.entry (field_in 1) }
+    {
+        view_of_field::<ArchivedBag, ArchivedRc<ArchivedSlice<ArchivedBag>, RcFlavor>>(self, 1, 8)
     }
 }
 
@@ -578,6 +708,10 @@ impl<'a> BagView<'a> for Ref<'a, ArchivedBag> {
 pub trait BagSeal<'a> {
     // The seal shows a part of a buffer that was checked.
     ghost sealed: { Self → Type 0 };
+
+    /// The bag that lies on top, if any.
+    fn top_mut(self) -> Seal<'a, ArchivedOption<ArchivedBox<ArchivedBag>>>
+        requires { sealed self };
 
     /// The bags in it.
     fn inside_mut(self) -> Seal<'a, ArchivedRc<ArchivedSlice<ArchivedBag>, RcFlavor>>
@@ -587,13 +721,23 @@ pub trait BagSeal<'a> {
 impl<'a> BagSeal<'a> for Seal<'a, ArchivedBag> {
     ghost sealed = { λ s. IsSealOf bag_definitions (one ⟦<ArchivedBag as Portable>⟧.shape) s };
 
+    fn top_mut(self) -> Seal<'a, ArchivedOption<ArchivedBox<ArchivedBag>>>
+        requires come_to { IsSealOf bag_definitions (one ⟦<ArchivedBag as Portable>⟧.shape) self }
+        ensures { SealsPart bag_definitions (one ⟦<ArchivedBag as Portable>⟧.shape)
+            ⟦<ArchivedBag as ArchivePointee>⟧.definitions
+            ⟦<ArchivedOption<ArchivedBox<ArchivedBag>> as ArchivePointee>⟧.pointee
+            (self.entry.pos + 0) 0 self.entry result }
+    {
+        seal_of_field::<ArchivedBag, ArchivedOption<ArchivedBox<ArchivedBag>>>(self, 0, 0)
+    }
+
     fn inside_mut(self) -> Seal<'a, ArchivedRc<ArchivedSlice<ArchivedBag>, RcFlavor>>
         requires come_to { IsSealOf bag_definitions (one ⟦<ArchivedBag as Portable>⟧.shape) self }
         ensures { SealsPart bag_definitions (one ⟦<ArchivedBag as Portable>⟧.shape)
             ⟦<ArchivedBag as ArchivePointee>⟧.definitions
             ⟦<ArchivedRc<ArchivedSlice<ArchivedBag>, RcFlavor> as ArchivePointee>⟧.pointee
-            (self.entry.pos + 0) 0 self.entry result }
+            (self.entry.pos + 8) 0 self.entry result }
     {
-        seal_of_field::<ArchivedBag, ArchivedRc<ArchivedSlice<ArchivedBag>, RcFlavor>>(self, 0, 0)
+        seal_of_field::<ArchivedBag, ArchivedRc<ArchivedSlice<ArchivedBag>, RcFlavor>>(self, 1, 8)
     }
 }

@@ -1,14 +1,14 @@
 //! Roads that lead into one another.
 
-use archive_core::rc::Shared;
+use archive_core::rc::{Shared, WeakShared};
 
 /// A road; several may lead into one.
 #[derive(Debug, PartialEq, Drop)]
 pub enum Road {
     /// A length, and the road that it leads into, if it does.
     Way(u8, Option<Shared<Road>>),
-    /// Another road in place of this one.
-    Detour(Shared<Road>),
+    /// Another road in place of this one, and the road that is closed, if that is known.
+    Detour(Shared<Road>, WeakShared<Road>),
 }
 
 // Below this line all is written by tools/derive: change what is above it, and run it again.
@@ -18,36 +18,42 @@ ghost use Rattle.archive_core.specs.CallOutcomes.{ResolvesAs};
 ghost use Rattle.archive_core.specs.Causes.{IsRefused};
 ghost use Rattle.archive_core.specs.Choices.{option_shape};
 ghost use Rattle.archive_core.specs.Definitions.{no_definition};
+ghost use Rattle.archive_core.specs.Entries.{ReadsBack};
 ghost use Rattle.archive_core.specs.Error.TheVariants.{OutOfMemory};
 ghost use Rattle.archive_core.specs.Expressed.{ExpressesParts, ExpressesVariants};
 ghost use Rattle.archive_core.specs.Options.{option_flat};
 ghost use Rattle.archive_core.specs.Payloads.{payload_in};
 ghost use Rattle.archive_core.specs.PlannedOwners.{one_planned};
 ghost use Rattle.archive_core.specs.Plans.{Serialized};
+ghost use Rattle.archive_core.specs.Pooled.{Entries as Known};
+ghost use Rattle.archive_core.specs.PooledParts.{Awaits};
+ghost use Rattle.archive_core.specs.Pooling.{ReadsShared, RefusesShared};
 ghost use Rattle.archive_core.specs.ReadBack.{Read, ReadsAs};
 ghost use Rattle.archive_core.specs.SealOutcomes.{IsSealOf, SealsPart, seal_tag};
 ghost use Rattle.archive_core.specs.Seen.{IsPartOf, RefusesPart, ShowsValueOf, part_tag, tag_of};
 ghost use Rattle.archive_core.specs.SelfCheck.Laws.{by_schema};
-ghost use Rattle.archive_core.specs.Shape.{one, part, parts, shared, variant};
+ghost use Rattle.archive_core.specs.Shape.{one, part, parts, shared, variant, weak};
+ghost use Rattle.archive_core.specs.SharedLaws.{weak_flat};
 ghost use Rattle.archive_core.specs.SharedSources.{rc_flat, rc_flavor};
 ghost use Rattle.archive_core.specs.Value.{case, no_value, shared_value, value};
+ghost use Rattle.archive_core.specs.Viewed.{Viewed};
 ghost use Rattle.archive_core.specs.Writing.{ZeroedPlace};
 ghost use Rattle.archive_core.specs.Written.{GoesOn};
 ghost use Rattle.recursive_kinds.specs.RoadShape.{road_definitions, road_detour_parts, road_has_layout, road_has_variants, road_is_align, road_layout, road_name, road_no_others, road_shape, road_variants, road_way_parts};
 ghost use Rattle.std.proofs.Common.{lit≤};
-ghost use Rattle.std.specs.Prelude.{IfErr, IfOk, None, Some, [], length, refl, ℕ, ⊤, ◌++◌, ◌+◌, ◌≡◌, ◌≤◌};
+ghost use Rattle.std.specs.Prelude.{IfErr, IfNone, IfOk, IfSome, List, None, Some, [], length, refl, ℕ, ⊤, ◌++◌, ◌+◌, ◌≡◌, ◌≤◌};
 
 use archive_core::error::Error;
 use archive_core::option::ArchivedOption;
 use archive_core::place::Place;
-use archive_core::pooling::Pooling;
-use archive_core::rc::{ArchivedRc, RcFlavor, RcResolver};
+use archive_core::pooling::{Pooled, Pooling, PoolingState};
+use archive_core::rc::{ArchivedRc, ArchivedRcWeak, RcFlavor, RcResolver, RcWeakResolver};
 use archive_core::recursive::{
     begin_reading, begin_shared, define_choice, expression_of, finish_reading, finish_shared,
     first_expression, first_variant, named_expression, no_expressions, no_variants,
-    option_expression, part_behind, part_of_variant, read_part, resolve_named_case_1,
-    resolve_named_case_2, seal_of_payload, serialize_part, shared_expression, tag_of_choice,
-    tag_of_view, view_of_payload,
+    option_expression, part_behind, part_of_variant, read_part, resolve_named_case_2,
+    seal_of_payload, serialize_part, shared_expression, tag_of_choice, tag_of_view,
+    view_of_payload, weak_expression,
 };
 use archive_core::seal::Seal;
 use archive_core::self_check::BySchema;
@@ -66,7 +72,10 @@ pub struct ArchivedRoad;
 
 type RoadWayParts = (u8, (ArchivedOption<ArchivedRc<ArchivedRoad, RcFlavor>>, ()));
 
-type RoadDetourParts = (ArchivedRc<ArchivedRoad, RcFlavor>, ());
+type RoadDetourParts = (
+    ArchivedRc<ArchivedRoad, RcFlavor>,
+    (ArchivedRcWeak<ArchivedRoad, RcFlavor>, ()),
+);
 
 type RoadVariants = (RoadWayParts, (RoadDetourParts, ()));
 
@@ -103,7 +112,11 @@ fn road_way_expressions(alloc: Global) -> Result<Vec<archive_core::shape::Expr>,
 fn road_detour_expressions(alloc: Global) -> Result<Vec<archive_core::shape::Expr>, AllocError>
     ensures { ExpressesParts road_detour_parts result }
 {
-    let rest1 = no_expressions(alloc);
+    let rest2 = no_expressions(alloc);
+    let rest1 = first_expression(
+        weak_expression(alloc, named_expression("ArchivedRoad")),
+        rest2,
+    );
     first_expression(
         shared_expression(alloc, named_expression("ArchivedRoad")),
         rest1,
@@ -169,7 +182,54 @@ pub enum RoadResolver {
     /// Of `Way`.
     Way((<u8 as Archive>::Resolver, (Option<RcResolver>, ()))),
     /// Of `Detour`.
-    Detour((RcResolver, ())),
+    Detour((RcResolver, (RcWeakResolver, ()))),
+}
+
+// The shared value at a position, if the pool has it; none if the position was unknown: then the caller reads it back, and calls `finish_target`.
+fn begin_target<T: Pooled, D: Pooling<T>>(
+    pos: usize,
+    deserializer: &mut D,
+) -> Result<Option<T>, Error>
+    ensures known { IfOk result (λ r. IfSome r (λ s. (bytes : List ℕ) (n : ℕ)
+        → ReadsShared D.keeps T.Archived.definitions bytes pos T.Archived.pointee n
+        (D.entry_of deserializer.old) (D.entry_of deserializer.new) (T.kept s))) }
+    ensures begun { IfOk result (λ r. IfNone r (Awaits D.keeps pos (D.entry_of deserializer.old)
+        (D.entry_of deserializer.new))) }
+    ensures refused { IfErr result (λ e. (bytes : List ℕ) (n : ℕ)
+        → RefusesShared T.Archived.definitions bytes pos T.Archived.pointee n
+        (D.entry_of deserializer.old) e) }
+{
+    match deserializer.start_pooling(pos)? {
+        PoolingState::Pending => Err(Error::CyclicDeserialize),
+        PoolingState::Finished(value) => Ok(Some(value)),
+        PoolingState::Started => Ok(None),
+    }
+}
+
+// The shared value of what was read back at a position since it was started: the pool has it from now on.
+fn finish_target<T: Pooled, D: Pooling<T>>(
+    alloc: Global,
+    pos: usize,
+    value: T::Value,
+    deserializer: &mut D,
+) -> Result<T, Error>
+    ensures read { IfOk result (λ s. (old started : Known) (bytes : List ℕ) (n : ℕ)
+        → Awaits D.keeps pos old started
+        → Viewed T.Archived.definitions bytes pos T.Archived.pointee n
+        → ReadsBack D.keeps T.Archived.definitions bytes pos T.Archived.pointee n started
+        (D.entry_of deserializer.old) (T.Value.meaning value) (T.Value.keys value)
+        → ReadsShared D.keeps T.Archived.definitions bytes pos T.Archived.pointee n old
+        (D.entry_of deserializer.new) (T.kept s)) }
+    ensures refused { IfErr result (λ e. (old started : Known) (bytes : List ℕ) (n : ℕ)
+        → Awaits D.keeps pos old started
+        → ReadsBack D.keeps T.Archived.definitions bytes pos T.Archived.pointee n started
+        (D.entry_of deserializer.old) (T.Value.meaning value) (T.Value.keys value)
+        → e ≡ OutOfMemory) }
+{
+    let shared = T::from_value(alloc, pos, value)?;
+    let kept = shared.clone()?;
+    deserializer.finish_pooling(pos, kept)?;
+    Ok(shared)
 }
 
 // A shared pointer to a value that was written before. It can be resolved, and nothing else: it means nothing.
@@ -312,6 +372,85 @@ impl Archive for OptionSharedRoadAt {
     }
 }
 
+// A weak pointer to a value that was written before, if there is one: what is kept of it says so. It means nothing.
+#[derive(Drop)]
+struct WeakRoadAt;
+
+impl ArchiveUnsized for WeakRoadAt {
+    type Archived = ArchivedRoad;
+
+    ghost source_length = { λ _. 0 };
+
+    ghost meaning = { λ _. shared_value 0 };
+
+    ghost keys = { λ _. named_twice };
+
+    ghost keyed = { λ _. twice_keyed };
+
+    ghost planned = { λ _ a s names known named. absurd (no_two names named) };
+
+    ghost one_length = { λ _ _. refl };
+
+    #[inline(always)]
+    fn archived_metadata(&self) -> Result<(), Error> {
+        Ok(())
+    }
+}
+
+impl Archive for WeakRoadAt {
+    type Archived = ArchivedRcWeak<ArchivedRoad, RcFlavor>;
+
+    type Resolver = RcWeakResolver;
+
+    ghost meaning = { λ _. shared_value 0 };
+
+    ghost flat = { λ _ r. weak_flat rc_flavor (one road_shape) 0 r };
+
+    ghost keys = { λ _. named_twice };
+
+    ghost belongs = { λ _ _. ⊤ };
+
+    ghost in_bulk = { None };
+
+    ghost keyed = { λ _. twice_keyed };
+
+    ghost planned = { λ _ a s names known named. absurd (no_two names named) };
+
+    #[inline(always)]
+    fn resolve(
+        &self,
+        resolver: RcWeakResolver,
+        place: Place<'_, ArchivedRcWeak<ArchivedRoad, RcFlavor>>,
+    ) -> Result<(), Error>
+        requires zeroed { ZeroedPlace 4 place.pos place.bytes.now }
+        requires same_value { ⊤ }
+        ensures { ResolvesAs ⟦<Self::Archived as Portable>⟧ place
+            (⟦<Self as Archive>⟧.flat self.now resolver) result }
+    {
+        let Place { bytes, pos, .. } = place;
+        let none: Option<&WeakRoadAt> = None;
+        ArchivedRcWeak::<ArchivedRoad, RcFlavor>::resolve_from_ref(
+            none,
+            resolver,
+            Place::new(pos, bytes),
+        )
+    }
+
+    #[inline(always)]
+    fn copy_optimization() -> CopyOptimization<Self> {
+        CopyOptimization::disable()
+    }
+
+    #[inline(always)]
+    fn serialize_copied<S: Writer + Keys>(
+        _values: &[Self],
+        _together: usize,
+        _serializer: &mut S,
+    ) -> Result<Option<usize>, Error> {
+        Ok(None)
+    }
+}
+
 impl Archive for Road {
     ghost use Rattle.recursive_kinds.specs.RoadMeaning.{road_meaning, road_flat, road_keys, road_belongs, road_keyed, road_planned};
 
@@ -358,13 +497,14 @@ impl Archive for Road {
                     Place::new(pos, bytes),
                 )
             }
-            Road::Detour(_a0) => {
+            Road::Detour(_a0, _a1) => {
                 let RoadResolver::Detour(kept) = resolver else {
                     unreachable!();
                 };
-                resolve_named_case_1::<SharedRoadAt, ArchivedRoad>(
+                resolve_named_case_2::<SharedRoadAt, WeakRoadAt, ArchivedRoad>(
                     1,
                     &SharedRoadAt,
+                    &WeakRoadAt,
                     kept,
                     Place::new(pos, bytes),
                 )
@@ -469,6 +609,49 @@ fn serialize_option_shared_road<S: Sharing + Writer + ResolverAlloc>(
     }
 }
 
+// Writes what a weak pointer leads to, if its key is unknown.
+#[cycle(serialize_road)]
+fn serialize_weak_shared_road<S: Sharing + Writer + ResolverAlloc>(
+    value: &WeakShared<Road>,
+    serializer: &mut S,
+) -> Result<RcWeakResolver, Error>
+    ensures serialized { IfOk result (λ r. Serialized road_definitions
+        (weak rc_flavor (one road_shape)) (⟦<WeakShared<Road> as Archive>⟧.keys value.now)
+        (⟦<WeakShared<Road> as Archive>⟧.meaning value.now)
+        (⟦<WeakShared<Road> as Archive>⟧.flat value.now r) (S.state serializer.old)
+        (S.state serializer.new)) }
+    ensures same_value { IfOk result (λ r. ⟦<WeakShared<Road> as Archive>⟧.belongs value.now r) }
+    ensures goes_on { GoesOn (S.state serializer.old) (S.state serializer.new) }
+    ensures refused { IfErr result (IsRefused road_definitions (weak rc_flavor (one road_shape))
+        (⟦<WeakShared<Road> as Archive>⟧.keys value.now)
+        (⟦<WeakShared<Road> as Archive>⟧.meaning value.now) (S.state serializer.old)
+        (S.state serializer.new)) }
+{
+    match &value.value {
+        None => Ok(None),
+        Some(whole) => {
+            let inner = &*whole.value;
+            let known = match begin_shared(whole.key, serializer) {
+                Ok(known) => known,
+                Err(error) => return Err(error),
+            };
+            match known {
+                Some(resolver) => Ok(Some(resolver)),
+                None => {
+                    let kept = match serialize_road(inner, serializer) {
+                        Ok(kept) => kept,
+                        Err(error) => return Err(error),
+                    };
+                    match finish_shared(whole.key, inner, kept, serializer) {
+                        Ok(resolver) => Ok(Some(resolver)),
+                        Err(error) => Err(error),
+                    }
+                }
+            }
+        }
+    }
+}
+
 // Writes what the parts of `Way` own, in order.
 #[cycle(serialize_road)]
 fn serialize_road_way<S: Sharing + Writer + ResolverAlloc>(
@@ -502,32 +685,6 @@ fn serialize_road_way<S: Sharing + Writer + ResolverAlloc>(
     Ok((a0, (a1, ())))
 }
 
-// Writes what the parts of `Detour` own, in order.
-#[cycle(serialize_road)]
-fn serialize_road_detour<S: Sharing + Writer + ResolverAlloc>(
-    a0: &Shared<Road>,
-    serializer: &mut S,
-) -> Result<(RcResolver, ()), Error>
-    ensures serialized { IfOk result (λ r. Serialized road_definitions road_shape
-        (⟦<Shared<Road> as Archive>⟧.keys a0.now ++ [])
-        (case 1 (value (⟦<Shared<Road> as Archive>⟧.meaning a0.now) no_value))
-        (case 1 (value (⟦<Shared<Road> as Archive>⟧.flat a0.now r.0) no_value))
-        (S.state serializer.old) (S.state serializer.new)) }
-    ensures same_values { IfOk result (λ r. ⟦<Shared<Road> as Archive>⟧.belongs a0.now r.0
-        × Unit {0}) }
-    ensures goes_on { GoesOn (S.state serializer.old) (S.state serializer.new) }
-    ensures refused { IfErr result (IsRefused road_definitions road_shape
-        (⟦<Shared<Road> as Archive>⟧.keys a0.now ++ [])
-        (case 1 (value (⟦<Shared<Road> as Archive>⟧.meaning a0.now) no_value))
-        (S.state serializer.old) (S.state serializer.new)) }
-{
-    let a0 = match serialize_shared_road(a0, serializer) {
-        Ok(a0) => a0,
-        Err(error) => return Err(error),
-    };
-    Ok((a0, ()))
-}
-
 // Writes what a value owns.
 #[cycle(serialize_road)]
 fn serialize_road<S: Sharing + Writer + ResolverAlloc>(
@@ -548,10 +705,17 @@ fn serialize_road<S: Sharing + Writer + ResolverAlloc>(
             Ok(kept) => Ok(RoadResolver::Way(kept)),
             Err(error) => Err(error),
         },
-        Road::Detour(a0) => match serialize_road_detour(a0, serializer) {
-            Ok(kept) => Ok(RoadResolver::Detour(kept)),
-            Err(error) => Err(error),
-        },
+        Road::Detour(a0, a1) => {
+            let a0 = match serialize_shared_road(a0, serializer) {
+                Ok(a0) => a0,
+                Err(error) => return Err(error),
+            };
+            let a1 = match serialize_weak_shared_road(a1, serializer) {
+                Ok(a1) => a1,
+                Err(error) => return Err(error),
+            };
+            Ok(RoadResolver::Detour((a0, (a1, ()))))
+        }
     }
 }
 
@@ -657,6 +821,48 @@ fn read_option_shared_road<D: Pooling<Shared<Road>>>(
     }
 }
 
+// Reads a weak pointer back.
+#[cycle(read_road)]
+fn read_weak_shared_road<D: Pooling<Shared<Road>>>(
+    alloc: Global,
+    part: RawView<'_>,
+    levels: usize,
+    deserializer: &mut D,
+) -> Result<WeakShared<Road>, Error>
+    requires { IsPartOf ⟦<ArchivedRcWeak<ArchivedRoad, RcFlavor> as ArchivePointee>⟧ part }
+    ensures read { IfOk result (Read ⟦<ArchivedRcWeak<ArchivedRoad, RcFlavor> as ArchivePointee>⟧
+        part D.Entries deserializer ⟦<WeakShared<Road> as Archive>⟧) }
+    ensures refused { IfErr result
+        (RefusesPart ⟦<ArchivedRcWeak<ArchivedRoad, RcFlavor> as ArchivePointee>⟧ part D.Entries
+        deserializer) }
+{
+    let view: Ref<'_, ArchivedRcWeak<ArchivedRoad, RcFlavor>> = Ref::at(part);
+    let Some(target) = view.upgrade() else {
+        return Ok(WeakShared { value: None });
+    };
+    let behind = target.part();
+    let pos = behind.pos;
+    let known = match begin_target::<Shared<Road>, D>(pos, deserializer) {
+        Ok(known) => known,
+        Err(error) => return Err(error),
+    };
+    match known {
+        Some(value) => Ok(WeakShared { value: Some(value) }),
+        None => {
+            let value = match read_road(alloc, behind, levels, deserializer) {
+                Ok(value) => value,
+                Err(error) => return Err(error),
+            };
+            match finish_target::<Shared<Road>, D>(alloc, pos, value, deserializer) {
+                Ok(shared) => Ok(WeakShared {
+                    value: Some(shared),
+                }),
+                Err(error) => Err(error),
+            }
+        }
+    }
+}
+
 // Reads `Way` back.
 #[cycle(read_road)]
 fn read_road_way<D: Pooling<Shared<Road>>>(
@@ -707,7 +913,12 @@ fn read_road_detour<D: Pooling<Shared<Road>>>(
         Ok(a0) => a0,
         Err(error) => return Err(error),
     };
-    Ok(Road::Detour(a0))
+    let p1 = part_of_variant::<ArchivedRoad, ArchivedRcWeak<ArchivedRoad, RcFlavor>>(part, 1, 1, 8);
+    let a1 = match read_weak_shared_road(alloc, p1, levels, deserializer) {
+        Ok(a1) => a1,
+        Err(error) => return Err(error),
+    };
+    Ok(Road::Detour(a0, a1))
 }
 
 // Reads a value back.
@@ -755,8 +966,11 @@ impl<D: Pooling<Shared<Road>>> Deserialize<Road, D> for ArchivedRoad {
 pub enum ViewOfRoad<'a> {
     /// A length, and the road that it leads into, if it does.
     Way(Ref<'a, u8>, Ref<'a, ArchivedOption<ArchivedRc<ArchivedRoad, RcFlavor>>>),
-    /// Another road in place of this one.
-    Detour(Ref<'a, ArchivedRc<ArchivedRoad, RcFlavor>>),
+    /// Another road in place of this one, and the road that is closed, if that is known.
+    Detour(
+        Ref<'a, ArchivedRc<ArchivedRoad, RcFlavor>>,
+        Ref<'a, ArchivedRcWeak<ArchivedRoad, RcFlavor>>,
+    ),
 }
 
 /// The variant of an archived `Road`, as a view.
@@ -775,9 +989,11 @@ impl<'a> RoadView<'a> for Ref<'a, ArchivedRoad> {
               × ShowsValueOf a0 self.entry (payload_in 0) × (a1.bytes.now ≡ self.entry.bytes.now)
               × (a1.pos ≡ self.entry.pos + 4) × (a1.len ≡ 0)
               × ShowsValueOf a1 self.entry (payload_in 1)
-          | RoadDetourShown a0 ↦ (tag_of self.entry ≡ 1) × (a0.bytes.now ≡ self.entry.bytes.now)
+          | RoadDetourShown a0 a1 ↦ (tag_of self.entry ≡ 1) × (a0.bytes.now ≡ self.entry.bytes.now)
               × (a0.pos ≡ self.entry.pos + 4) × (a0.len ≡ 0)
-              × ShowsValueOf a0 self.entry (payload_in 0)
+              × ShowsValueOf a0 self.entry (payload_in 0) × (a1.bytes.now ≡ self.entry.bytes.now)
+              × (a1.pos ≡ self.entry.pos + 8) × (a1.len ≡ 0)
+              × ShowsValueOf a1 self.entry (payload_in 1)
         ] }
     {
         match tag_of_view(self) {
@@ -793,7 +1009,10 @@ impl<'a> RoadView<'a> for Ref<'a, ArchivedRoad> {
                 let a0 = view_of_payload::<ArchivedRoad, ArchivedRc<ArchivedRoad, RcFlavor>>(
                     self, 1, 0, 4,
                 );
-                ViewOfRoad::Detour(a0)
+                let a1 = view_of_payload::<ArchivedRoad, ArchivedRcWeak<ArchivedRoad, RcFlavor>>(
+                    self, 1, 1, 8,
+                );
+                ViewOfRoad::Detour(a0, a1)
             }
         }
     }
@@ -819,6 +1038,11 @@ pub trait RoadSeal<'a> {
 
     /// The field `0` of `Detour`.
     fn detour_0_mut(self) -> Seal<'a, ArchivedRc<ArchivedRoad, RcFlavor>>
+        requires come_to { sealed self }
+        requires tag { tag self ≡ 1 };
+
+    /// The field `1` of `Detour`.
+    fn detour_1_mut(self) -> Seal<'a, ArchivedRcWeak<ArchivedRoad, RcFlavor>>
         requires come_to { sealed self }
         requires tag { tag self ≡ 1 };
 }
@@ -859,5 +1083,16 @@ impl<'a> RoadSeal<'a> for Seal<'a, ArchivedRoad> {
             self.entry result }
     {
         seal_of_payload::<ArchivedRoad, ArchivedRc<ArchivedRoad, RcFlavor>>(self, 1, 0, 4)
+    }
+
+    fn detour_1_mut(self) -> Seal<'a, ArchivedRcWeak<ArchivedRoad, RcFlavor>>
+        requires come_to { IsSealOf road_definitions (one ⟦<ArchivedRoad as Portable>⟧.shape) self }
+        requires tag { seal_tag self ≡ 1 }
+        ensures { SealsPart road_definitions (one ⟦<ArchivedRoad as Portable>⟧.shape)
+            ⟦<ArchivedRoad as ArchivePointee>⟧.definitions
+            ⟦<ArchivedRcWeak<ArchivedRoad, RcFlavor> as ArchivePointee>⟧.pointee
+            (self.entry.pos + 8) 0 self.entry result }
+    {
+        seal_of_payload::<ArchivedRoad, ArchivedRcWeak<ArchivedRoad, RcFlavor>>(self, 1, 1, 8)
     }
 }

@@ -14,29 +14,30 @@ use std::rc::RcSlice;
 // A bag of these bags, under a key.
 fn bag(key: u64, bags: Vec<Bag>) -> Result<Bag, AllocError> {
     let value = RcSlice::from_vec(bags)?;
-    Ok(Bag {
-        inside: SharedSlice { key, value },
-    })
+    let inside = SharedSlice { key, value };
+    Ok(Bag { top: None, inside })
 }
 
 // A bag of the same bags.
 fn again(bag: &Bag) -> Result<Bag, AllocError> {
-    Ok(Bag {
-        inside: bag.inside.clone()?,
-    })
+    let inside = bag.inside.clone()?;
+    Ok(Bag { top: None, inside })
 }
 
-// An empty bag, and a bag with the same in it, in a bag.
+// An empty bag, and a bag with the same in it, in a bag; on top of them a bag like the second.
 fn bags(alloc: Global) -> Result<Bag, AllocError> {
     let none = bag(5, Vec::new(alloc))?;
     let one = bag(6, vec![in alloc; again(&none)?]?)?;
-    bag(7, vec![in alloc; none, one]?)
+    let top = Some(Box::new(alloc, again(&one)?)?);
+    let all = bag(7, vec![in alloc; none, one]?)?;
+    let inside = all.inside.clone()?;
+    Ok(Bag { top, inside })
 }
 
-// No bags at 0, with a byte in their place; the bag in the second one at 4; the empty one at 12, the second at 20, and the whole at 28. A bag is an offset and a
-// length.
+// No bags at 0, with a byte in their place; the bag in the second one at 4; the one on top at 20; the empty one at 36, the second at 52, and the whole at 68. A
+// bag is an option, of a tag and an offset, and at 8 an offset and a length.
 const BAGS: &[u8] =
-    b"\0\0\0\0\xfc\xff\xff\xff\0\0\0\0\xf4\xff\xff\xff\0\0\0\0\xf0\xff\xff\xff\x01\0\0\0\xf0\xff\xff\xff\x02\0\0\0";
+    b"\0\0\0\0\0\0\0\0\0\0\0\0\xf4\xff\xff\xff\0\0\0\0\0\0\0\0\0\0\0\0\xe8\xff\xff\xff\x01\0\0\0\0\0\0\0\0\0\0\0\xd4\xff\xff\xff\0\0\0\0\0\0\0\0\0\0\0\0\xc8\xff\xff\xff\x01\0\0\0\x01\0\0\0\xcc\xff\xff\xff\xd8\xff\xff\xff\x02\0\0\0";
 
 #[test]
 fn each_slice_once(rt: HostRuntime) {
@@ -48,7 +49,7 @@ fn each_slice_once(rt: HostRuntime) {
     assert_written(&rt, rt.alloc(), &back, BAGS);
     assert_same(&rt, "what is known", pool.is_known(0), true);
     assert_same(&rt, "what is known", pool.is_known(4), true);
-    assert_same(&rt, "what is known", pool.is_known(12), true);
+    assert_same(&rt, "what is known", pool.is_known(36), true);
 }
 
 // Without a pool each pointer has bags of its own, under the position as their key.
@@ -74,6 +75,8 @@ fn in_bag<'a>(
 fn bags_as_they_lie(rt: HostRuntime) {
     let whole = viewed::<ArchivedBag>(&rt, rt.alloc(), BAGS);
     assert_same(&rt, "the bags", whole.inside().get().len(), 2);
+    let top = whole.top().as_ref().expect(&rt, "a bag on top");
+    assert_same(&rt, "where that lies", top.get().pos(), 20);
     let Some(second) = in_bag(&rt, whole, 1) else {
         return;
     };
@@ -98,7 +101,8 @@ fn bag_within_itself(rt: HostRuntime) {
 }
 
 // The bag at 0 is in itself.
-const ROUND: &[u8] = b"\0\0\0\0\x01\0\0\0\xf8\xff\xff\xff\x01\0\0\0";
+const ROUND: &[u8] =
+    b"\0\0\0\0\0\0\0\0\xf8\xff\xff\xff\x01\0\0\0\0\0\0\0\0\0\0\0\xe8\xff\xff\xff\x01\0\0\0";
 
 #[test]
 fn archive_of_a_cycle(rt: HostRuntime) {

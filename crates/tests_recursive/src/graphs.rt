@@ -5,7 +5,7 @@ use crate::assertions::{assert_holds, assert_refused, assert_same, assert_writte
 use archive_core::api::{from_bytes, to_bytes};
 use archive_core::error::Error;
 use archive_core::pooling::{Pool, Unpool};
-use archive_core::rc::Shared;
+use archive_core::rc::{Shared, WeakShared};
 use archive_core::view::Ref;
 use recursive_kinds::graph::{ArchivedGraph, Graph};
 use recursive_kinds::knot::Knot;
@@ -102,17 +102,29 @@ fn shared(alloc: Global, key: u64, road: Road) -> Result<Shared<Road>, AllocErro
     Ok(Shared { key, value })
 }
 
-// Road 1 leads into a detour, which is road 9.
+// A detour over a road, in place of the road under this key.
+fn detour(alloc: Global, over: Shared<Road>, closed: u64) -> Result<Shared<Road>, AllocError> {
+    let closed = Shared {
+        key: closed,
+        value: over.value.clone()?,
+    };
+    let closed = WeakShared {
+        value: Some(closed),
+    };
+    shared(alloc, 5, Road::Detour(over, closed))
+}
+
+// Road 1 leads into a detour, which is road 9; that is closed, too.
 fn road(alloc: Global) -> Result<Road, AllocError> {
     let last = shared(alloc, 7, Road::Way(9, None))?;
-    let detour = shared(alloc, 5, Road::Detour(last))?;
+    let detour = detour(alloc, last, 7)?;
     Ok(Road::Way(1, Some(detour)))
 }
 
 // Road 9 at 0, the detour at 12, and road 1 at 24: a tag, behind it a length, and at 4 an option, which is a tag, and an offset four bytes behind it; of the
-// detour an offset at 4.
+// detour offsets at 4 and 8.
 const ROAD: &[u8] =
-    b"\0\x09\0\0\0\0\0\0\0\0\0\0\x01\0\0\0\xf0\xff\xff\xff\0\0\0\0\0\x01\0\0\x01\0\0\0\xec\xff\xff\xff";
+    b"\0\x09\0\0\0\0\0\0\0\0\0\0\x01\0\0\0\xf0\xff\xff\xff\xec\xff\xff\xff\0\x01\0\0\x01\0\0\0\xec\xff\xff\xff";
 
 #[test]
 fn roads(rt: HostRuntime) {
@@ -133,7 +145,7 @@ fn next_of<'a>(road: Ref<'a, ArchivedRoad>) -> Option<Ref<'a, ArchivedRoad>> {
             Some(next) => Some(next.get()),
             None => None,
         },
-        ViewOfRoad::Detour(next) => Some(next.get()),
+        ViewOfRoad::Detour(next, _) => Some(next.get()),
     }
 }
 
@@ -146,9 +158,23 @@ fn roads_as_they_lie(rt: HostRuntime) {
     assert_holds(&rt, "no more", next_of(last).is_none());
 }
 
-// The detour's pointer at 16 leads to the detour itself.
+// A detour in place of itself.
+fn road_closed_for_itself(alloc: Global) -> Result<Road, AllocError> {
+    let last = shared(alloc, 7, Road::Way(9, None))?;
+    let detour = detour(alloc, last, 5)?;
+    Ok(Road::Way(1, Some(detour)))
+}
+
+#[test]
+fn detour_in_place_of_itself(rt: HostRuntime) {
+    let road = road_closed_for_itself(rt.alloc()).expect(&rt, "a road");
+    let refused = to_bytes(rt.alloc(), &road).err();
+    assert_same(&rt, "a cycle", refused, Some(Error::CyclicSerialize));
+}
+
+// The detour's weak pointer at 20 leads to the detour itself.
 const ROUND: &[u8] =
-    b"\0\x09\0\0\0\0\0\0\0\0\0\0\x01\0\0\0\xfc\xff\xff\xff\0\0\0\0\0\x01\0\0\x01\0\0\0\xec\xff\xff\xff";
+    b"\0\x09\0\0\0\0\0\0\0\0\0\0\x01\0\0\0\xf0\xff\xff\xff\xf8\xff\xff\xff\0\x01\0\0\x01\0\0\0\xec\xff\xff\xff";
 
 #[test]
 fn road_into_itself(rt: HostRuntime) {

@@ -68,14 +68,20 @@ def is_split(it, type):
     return it.terms.is_option(type) or it.terms.is_weak(type) or it.terms.is_row(type) and any(is_split(it, arg) for arg in type.args)
 
 
-def wholes(it):
-    """The parts of a record by their names: of a weak pointer the name is that of its option."""
-    return [written_out(name) if it.terms.is_weak(type) else name for type, name in zip(it.types, it.names)]
+def is_by_options(it, case):
+    """Whether what is said of a layer rests on what is said of the options in it: antt matches on no record, as a struct or a weak pointer is."""
+    return any(is_split(it, type) if it.is_record else it.terms.is_weak(type) for type in case.types)
 
 
-def arguments_at(it, place):
-    """The same parts of a record in a place."""
-    return " ".join(f"{place}.{field.name}{'.value' if it.terms.is_weak(field.type) else ''}" for field in it.fields)
+def wholes(it, case):
+    """The parts by their names: of a weak pointer the name is that of its option."""
+    return [written_out(name) if it.terms.is_weak(type) else name for type, name in zip(case.types, case.names)]
+
+
+def arguments_at(it, case, place=""):
+    """The same parts, of a record in a place."""
+    parts = [f"{place}.{field.name}" for field in case.fields] if place else case.names
+    return " ".join(f"{part}{'.value' if it.terms.is_weak(type) else ''}" for part, type in zip(parts, case.types))
 
 
 def layer_of(it, case, values):
@@ -85,10 +91,10 @@ def layer_of(it, case, values):
     return f"({it.layer}.{case.name}{''.join(' ' + value for value in values)})" if values else f"{it.layer}.{case.name}"
 
 
-def arguments_of(it, case, held=None):
-    """The parts as arguments. A type that the crate can't name antt finds by what is made of the parts, as a boxed slice's."""
+def arguments_of(it, case, held=None, by_options=False):
+    """The parts as arguments, weak pointers also as options. A type that the crate can't name antt finds by what is made of the parts, as a boxed slice's."""
     unnamed = lambda type: has_boxed(type) or type.name == "BoxSlice" and it.terms.leads_back(type)
-    option = lambda type: Type("Option", [Type("Shared", type.args)]) if it.terms.is_weak(type) else type
+    option = lambda type: Type("Option", [Type("Shared", type.args)]) if by_options and it.terms.is_weak(type) else type
     return "".join(f" ({name} : {'_' if unnamed(type) else it.antt(option(type), held)})" for name, type in zip(case.names, case.types))
 
 
@@ -185,15 +191,26 @@ def rolled(it, which, type, word):
     said = f"pub {n}_{word}_roll : (x : {N}-F {sources(it)}) → {claim.format('x')}\n"
     unfolded = ["both", "meaning"] + ["keys"] * (which == "keys") if it.family.shares else [which]
     opened_ = f"unfolding {' '.join(f'{other.n}_{one}' for one in unfolded for other in it.family.members)}\n"
+    steps = lambda case: [(values, step(case, layer_of(it, case, values), values)) for values in splits(it, case)]
+    at = "".join(proved_at(it, case, word, claim, opened_, steps(case)) for case in (it.cases if not it.is_record else [it]) if is_by_options(it, case))
     if not it.is_record:
-        lines = "".join(f"{n}_{word}_roll {layer_of(it, case, values)} = {step(case, layer_of(it, case, values), values)}\n" for case in it.cases for values in splits(it, case))
-        return said + opened_ + lines
-    if not any(is_split(it, type_) for type_ in it.types):
+        lines = ""
+        for case in it.cases:
+            if is_by_options(it, case):
+                lines += f"{n}_{word}_roll {layer_of(it, case, case.binders)} = {case.n}_{word}_at {arguments_at(it, case)}\n"
+            else:
+                lines += "".join(f"{n}_{word}_roll {layer_of(it, case, values)} = {proof}\n" for values, proof in steps(case))
+        return at + said + opened_ + lines
+    if not at:
         return f"{said}{opened_}{n}_{word}_roll t = {step(it, 't', it.binders)}\n"
-    whole = layer_of(it, it, wholes(it))
-    lines = "".join(f"{n}_{word}_at {' '.join(map(option_of, values))} = {step(it, layer_of(it, it, values), values)}\n" for values in splits(it, it))
-    at = f"{n}_{word}_at :{arguments_of(it, it)} → {claim.format(whole)}\n{opened_}{lines}\n"
-    return f"{at}{said}{n}_{word}_roll x = {n}_{word}_at {arguments_at(it, 'x')}\n"
+    return f"{at}{said}{n}_{word}_roll x = {n}_{word}_at {arguments_at(it, it, 'x')}\n"
+
+
+def proved_at(it, case, word, claim, opened_, steps, held=None):
+    """A lemma on the layer of these parts by the options in it, of which each has a proof; `claim` is a text with braces for the layer."""
+    name = f"{case.n}_{word}_at"
+    lines = "".join(f"{name} {' '.join(map(option_of, values))} = {proof}\n" for values, proof in steps)
+    return f"{name} :{arguments_of(it, case, held, True)} → {claim.format(layer_of(it, case, wholes(it, case)))}\n{opened_}{lines}\n"
 
 
 def with_types(it, case, which, own, whole):

@@ -89,8 +89,8 @@ def check_plain(it: Declaration, type: Type, line: int, behind: bool = False):
 
 
 def check_owner(it: Declaration, type: Type, line: int):
-    """What leads back is a box or a shared pointer, an option of one, a weak pointer, an array of options of boxes, a vector or a boxed slice of these or of
-    the type itself, a vector of tuples, a shared slice, a sorted map, or a box of a vector."""
+    """What leads back is a box or a shared pointer, an option of one, a weak pointer, a vector or a boxed slice of these or of the type itself, a vector of
+    tuples, a box of a vector, a shared slice, a sorted map, an array of options of boxes, or a tuple of one and a number."""
     for row in rows_in(it, type):
         check_row(it, row, line)
     if is_map(it, type):
@@ -122,7 +122,7 @@ def refuse_nullable(it: Declaration, type: Type, line: int):
     if is_named(type, "Option") and is_named(type.args[0], "WeakShared"):
         raise Refused(it.path, line, f"an `Option` of a `WeakShared` around `{it.name}` isn't written; write the `WeakShared`, which may be a null itself")
     if any(is_named(part, "WeakShared") for part in (type, *type.args)):
-        raise Refused(it.path, line, f"`WeakShared` around `{it.name}` is written in a struct, or in a `Vec` in one; write an `Option` of a `Shared`")
+        raise Refused(it.path, line, f"this `WeakShared` around `{it.name}` isn't written; write a `WeakShared<{it.name}>`, in a struct or in an enum that is recursive alone, or a `Vec` of it in a struct")
 
 
 def check_array(it: Declaration, type: Type, line: int):
@@ -135,10 +135,11 @@ def check_array(it: Declaration, type: Type, line: int):
 
 
 def check_slice(it: Declaration, type: Type, line: int):
-    """A shared slice that leads back has elements of the type itself, and no other field leads back, nor does another type. Others aren't proved."""
-    others = sum(leads_back(it, field.type) for field in it.all_fields()) > 1
-    if len(it.family) > 1 or others or not is_member(it, type.args[0]):
-        said = f"a `SharedSlice` that leads back to `{it.name}` is written with elements of `{it.name}`, if no other field leads back and no other type is recursive with it"
+    """A shared slice that leads back has elements of the type itself; beside it others lead back in a struct alone, and by boxes. Others aren't proved."""
+    others = [field.type for field in it.all_fields() if leads_back(it, field.type) and field.type is not type]
+    beside = it.kind == "struct" and all(is_pointer(it, other) for other in others)
+    if len(it.family) > 1 or others and not beside or not is_member(it, type.args[0]):
+        said = f"a `SharedSlice` that leads back to `{it.name}` is written with elements of `{it.name}`, if no other field leads back but, in a struct, by a box, and no other type is recursive with it"
         raise Refused(it.path, line, f"{said}; write a `Shared` of a struct of this file with a `Vec`")
 
 
@@ -210,11 +211,12 @@ def is_map(it: Declaration, type: Type) -> bool:
 
 
 def is_nullable(it: Declaration, type: Type) -> bool:
-    """Whether it is a weak pointer, a vector of these, or one of options of shared pointers, in a struct."""
-    weak = type.args[0] if is_named(type, "Vec") else type
-    if is_named(type, "Vec") and is_named(weak, "Option"):
-        return it.kind == "struct" and is_shared(it, weak)
-    return it.kind == "struct" and is_named(weak, "WeakShared") and is_member(it, weak.args[0])
+    """Whether it is a weak pointer, but in an enum of a family, or in a struct a vector of these or of options of shared pointers."""
+    item = type.args[0] if is_named(type, "Vec") else type
+    if item is not type and is_named(item, "Option"):
+        return it.kind == "struct" and is_shared(it, item)
+    is_proved = it.kind == "struct" or item is type and len(it.family) == 1
+    return is_proved and is_named(item, "WeakShared") and is_member(it, item.args[0])
 
 
 def is_list(it: Declaration, type: Type) -> bool:

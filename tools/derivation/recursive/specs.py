@@ -300,15 +300,19 @@ def law_of_layer(it, law, text):
     claim = text.format(n=n, x=mapped)
     said = f"{n}_{law}_layer : (y : {N}-F {' '.join(held.values())}) → {claim.format('y')}\n"
     proof = keyed if law == "keyed" else planned
-    if not it.is_record:
-        return [said + "".join(f"{n}_{law}_layer {mapped_lists.layer_of(it, case, values)} = {proof(it, case, values)}\n" for case in it.cases for values in mapped_lists.splits(it, case))]
-    if not any(mapped_lists.is_split(it, type) for type in it.types):
+    steps = lambda case: [(values, proof(it, case, values)) for values in mapped_lists.splits(it, case)]
+    at = [mapped_lists.proved_at(it, case, law, claim, "", steps(case), held)[:-1] for case in ([it] if it.is_record else it.cases) if mapped_lists.is_by_options(it, case)]
+    if it.is_record and at:
+        return at + [f"{said}{n}_{law}_layer y = {n}_{law}_at {mapped_lists.arguments_at(it, it, 'y')}\n"]
+    if it.is_record:
         return [f"{said}{n}_{law}_layer y = {proof(it, it, [f'y.{field.name}' for field in it.fields])}\n"]
-    lines = "".join(f"{n}_{law}_at {' '.join(map(option_of, values))} = {proof(it, it, values)}\n" for values in mapped_lists.splits(it, it))
-    return [
-        f"{n}_{law}_at :{mapped_lists.arguments_of(it, it, held)} → {claim.format(mapped_lists.layer_of(it, it, mapped_lists.wholes(it)))}\n{lines}",
-        f"{said}{n}_{law}_layer y = {n}_{law}_at {mapped_lists.arguments_at(it, 'y')}\n",
-    ]
+    lines = ""
+    for case in it.cases:
+        if mapped_lists.is_by_options(it, case):
+            lines += f"{n}_{law}_layer {mapped_lists.layer_of(it, case, case.binders)} = {case.n}_{law}_at {mapped_lists.arguments_at(it, case)}\n"
+        else:
+            lines += "".join(f"{n}_{law}_layer {mapped_lists.layer_of(it, case, values)} = {its}\n" for values, its in steps(case))
+    return at + [said + lines]
 
 
 def keyed(it, case, values):

@@ -8,6 +8,8 @@ from derivation.read import MOST_OF_VARIANT
 from .repository import RepositoryTest
 
 LIST = ",\n"
+SLICE = "a `SharedSlice` that leads back to `A` is written with elements of `A`, if no other field leads back but, in a struct, by a box, and no other type is recursive with it; write a `Shared` of a struct of this file with a `Vec`"
+WEAK = "this `WeakShared` around `A` isn't written; write a `WeakShared<A>`, in a struct or in an enum that is recursive alone, or a `Vec` of it in a struct"
 ARRAY = "an array that leads back to `A` is written in a struct of up to 7 fields, of 1 to 8 options of boxes, if no other field leads back and no other type is recursive with it; write a `Vec`"
 # A type of a field, and how its refusal begins.
 FIELDS = [
@@ -193,15 +195,16 @@ class Circles(RepositoryTest):
             ("struct A { a: Option<Vec<A>> }", "1: this option to `A` isn't written yet; a `Box<A>`, a `Shared<A>`, an `Option` of one, a `Vec` or a `BoxSlice` of `A`, of `Box<A>`, `Option<Box<A>>` or `Shared<A>`, a `Vec` of tuples or, in a struct, of `Option<Shared<A>>`, a `Box` of a `Vec` of others, a `SharedSlice` or a `BTreeMap` of `A` is"),
             ("struct A { a: Vec<Vec<A>> }", "1: this `Vec` of pointers to `A` isn't written yet; a `Box<A>`, a `Shared<A>`, an `Option` of one, a `Vec` or a `BoxSlice` of `A`, of `Box<A>`, `Option<Box<A>>` or `Shared<A>`, a `Vec` of tuples or, in a struct, of `Option<Shared<A>>`, a `Box` of a `Vec` of others, a `SharedSlice` or a `BTreeMap` of `A` is"),
             ("use archive_core::rc::WeakShared;\nstruct A { a: Option<WeakShared<A>> }", "2: an `Option` of a `WeakShared` around `A` isn't written; write the `WeakShared`, which may be a null itself"),
-            ("use archive_core::rc::WeakShared;\nenum A { X, Y(WeakShared<A>) }", "2: `WeakShared` around `A` is written in a struct, or in a `Vec` in one; write an `Option` of a `Shared`"),
-            ("use archive_core::rc::WeakShared;\nenum A { X, Y(Vec<WeakShared<A>>) }", "2: `WeakShared` around `A` is written in a struct, or in a `Vec` in one; write an `Option` of a `Shared`"),
+            ("use archive_core::rc::WeakShared;\nenum A { X, Y(WeakShared<A>), Z(Box<B>) }\nstruct B { a: Vec<A> }", f"2: {WEAK}"),
+            ("use archive_core::rc::WeakShared;\nenum A { X, Y(Vec<WeakShared<A>>) }", f"2: {WEAK}"),
             ("use archive_core::boxed::BoxSlice;\nuse archive_core::rc::Shared;\nstruct A { a: BoxSlice<Option<Shared<A>>> }", "3: this `BoxSlice` of pointers to `A` isn't written yet; a `Box<A>`, a `Shared<A>`, an `Option` of one, a `Vec` or a `BoxSlice` of `A`, of `Box<A>`, `Option<Box<A>>` or `Shared<A>`, a `Vec` of tuples or, in a struct, of `Option<Shared<A>>`, a `Box` of a `Vec` of others, a `SharedSlice` or a `BTreeMap` of `A` is"),
             ("use archive_core::rc::Shared;\nenum A { X, Y(Vec<Option<Shared<A>>>) }", "2: this `Vec` of pointers to `A` isn't written yet; a `Box<A>`, a `Shared<A>`, an `Option` of one, a `Vec` or a `BoxSlice` of `A`, of `Box<A>`, `Option<Box<A>>` or `Shared<A>`, a `Vec` of tuples or, in a struct, of `Option<Shared<A>>`, a `Box` of a `Vec` of others, a `SharedSlice` or a `BTreeMap` of `A` is"),
-            ("use archive_core::boxed::BoxSlice;\nuse archive_core::rc::WeakShared;\nstruct A { a: BoxSlice<WeakShared<A>> }", "3: `WeakShared` around `A` is written in a struct, or in a `Vec` in one; write an `Option` of a `Shared`"),
+            ("use archive_core::boxed::BoxSlice;\nuse archive_core::rc::WeakShared;\nstruct A { a: BoxSlice<WeakShared<A>> }", f"3: {WEAK}"),
             ("use archive_core::rc::SharedSlice;\nstruct A { a: SharedSlice<A> }\nstruct B { b: SharedSlice<A> }", "3: a `SharedSlice` of the recursive `A` isn't written in another type; write a `Vec` of `Shared`s"),
-            ("use archive_core::rc::SharedSlice;\nstruct A { a: SharedSlice<Box<A>> }", "2: a `SharedSlice` that leads back to `A` is written with elements of `A`, if no other field leads back and no other type is recursive with it; write a `Shared` of a struct of this file with a `Vec`"),
-            ("use archive_core::rc::SharedSlice;\nstruct A { a: SharedSlice<A>, b: Vec<B> }\nstruct B { a: Vec<A> }", "2: a `SharedSlice` that leads back to `A` is written with elements of `A`, if no other field leads back and no other type is recursive with it; write a `Shared` of a struct of this file with a `Vec`"),
-            ("use archive_core::rc::{Shared, SharedSlice};\nstruct A { a: SharedSlice<A>, b: Vec<Shared<A>> }", "2: a `SharedSlice` that leads back to `A` is written with elements of `A`, if no other field leads back and no other type is recursive with it; write a `Shared` of a struct of this file with a `Vec`"),
+            ("use archive_core::rc::SharedSlice;\nstruct A { a: SharedSlice<Box<A>> }", f"2: {SLICE}"),
+            ("use archive_core::rc::SharedSlice;\nstruct A { a: SharedSlice<A>, b: Vec<B> }\nstruct B { a: Vec<A> }", f"2: {SLICE}"),
+            ("use archive_core::rc::{Shared, SharedSlice};\nstruct A { a: SharedSlice<A>, b: Vec<Shared<A>> }", f"2: {SLICE}"),
+            ("use archive_core::rc::SharedSlice;\nenum A { X(Option<Box<A>>), Y(SharedSlice<A>) }", f"2: {SLICE}"),
             ("use archive_core::rc::WeakShared;\nstruct A { a: Vec<(u8, A)>, b: WeakShared<A> }", "2: `A` leads to itself behind a shared pointer, and a tuple around it isn't written yet; write a struct of this file"),
             ("use archive_core::rc::SharedSlice;\nstruct A { a: Vec<SharedSlice<A>> }", "2: this `Vec` of pointers to `A` isn't written yet; a `Box<A>`, a `Shared<A>`, an `Option` of one, a `Vec` or a `BoxSlice` of `A`, of `Box<A>`, `Option<Box<A>>` or `Shared<A>`, a `Vec` of tuples or, in a struct, of `Option<Shared<A>>`, a `Box` of a `Vec` of others, a `SharedSlice` or a `BTreeMap` of `A` is"),
             ("use std::collections::BTreeMap;\nstruct A { a: BTreeMap<u8, A> }", "2: a `BTreeMap` that leads back to `A` is written with keys that are a `String`; write a `Vec` of a struct of this file"),

@@ -1,15 +1,19 @@
 -- Written by tools/derive: change the declaration, and run it again.
 use Rattle.archive_core.proofs.Causes.{err_by, err_from}
+use Rattle.archive_core.proofs.OwnersRead.{box_read, box_unread}
 use Rattle.archive_core.proofs.PooledPointers.{shared_back, shared_unread}
 use Rattle.archive_core.proofs.PooledReading.{kept_refused}
 use Rattle.archive_core.proofs.ReadElements.{all_have, elements_more, elements_all, element_refused}
-use Rattle.archive_core.proofs.ReadRecords.{record_read_back, record_refuses, first_refuses}
+use Rattle.archive_core.proofs.ReadRecords.{record_read_back, record_refuses, first_refuses, later_refuses}
+use Rattle.archive_core.proofs.ReadVariants.{case_read_back, case_refuses, empty_case_read_back}
 use Rattle.archive_core.proofs.fields.Ties.{if_ok}
-use Rattle.archive_core.specs.Definitions.{no_definition}
+use Rattle.archive_core.specs.Choices.{option_shape}
+use Rattle.archive_core.specs.Definitions.{both, no_definition}
 use Rattle.archive_core.specs.Held.{read_as}
+use Rattle.archive_core.specs.Options.{option_keys}
 use Rattle.archive_core.specs.PartsReading.{part_read_back, no_part_read_back}
 use Rattle.archive_core.specs.Runs.{each_keys, each_meaning}
-use Rattle.archive_core.specs.Shape.{shared, one, run, part, no_part}
+use Rattle.archive_core.specs.Shape.{boxed, shared, one, run, part, no_part}
 use Rattle.archive_core.specs.SharedSources.{rc_flavor, rc_keys}
 use Rattle.archive_core.specs.Value.{list, value}
 use Rattle.recursive_kinds.specs.BagMeaning.{bag_meaning, bag_keys, bag_means_roll, bag_has_keys_roll}
@@ -18,6 +22,21 @@ use Rattle.std.proofs.Common.{inl, ◌≡◌, ◌<◌, ◌+◌, ◌++◌, ◌∷
 use Rattle.std.proofs.lemmas.Grind.{common_steps}
 use Rattle.std.specs.Prelude.{[], ◌++◌, ◌≡◌, refl, pos, length}
 use Rattle.recursive_kinds.proofs.bag.+read_bag.Goals as goal
+
+pub read_box_bag-returns-in-Err-clause-refused : goal.read_box_bag-returns-in-Err-clause-refused
+read_box_bag-returns-in-Err-clause-refused g t c = box_unread bag_definitions c.args.part.bytes.now c.args.part.pos c.args.part.len (one bag_shape) (g.D.Entries.entry_of c.args.deserializer.now) c.in-Err.error c.requires (rw (c.part.ensures.buffer, c.part.ensures.position, c.part.ensures.length, c.before_box.ensures.buffer, c.before_box.ensures.position, c.before_box.ensures.length, c.at-view.ensures.buffer, c.at-view.ensures.position) at c.in-Err.ensures.refused)
+
+pub read_box_bag-returns-clause-read : goal.read_box_bag-returns-clause-read
+read_box_bag-returns-clause-read g t c = (let same : c.in_ok-whole.whole.value ≡ c.in-Ok.value = grind (arith, common_steps) in rw same (box_read bag_definitions c.args.part.bytes.now c.args.part.pos c.args.part.len (one bag_shape) _ _ _ _ c.requires (rw (c.part.ensures.buffer, c.part.ensures.position, c.part.ensures.length, c.before_box.ensures.buffer, c.before_box.ensures.position, c.before_box.ensures.length, c.at-view.ensures.buffer, c.at-view.ensures.position) at c.in-Ok.ensures.read)))
+
+pub read_option_box_bag-returns-in-None-clause-read : goal.read_option_box_bag-returns-in-None-clause-read
+read_option_box_bag-returns-in-None-clause-read g t c = empty_case_read_back bag_definitions _ _ 0 refl c.args.part.bytes.now c.args.part.pos c.args.part.len (rw (c.at-view.ensures.buffer, c.at-view.ensures.position) at c.in-None.ensures.tag) _ _ refl
+
+pub read_option_box_bag-returns-in-Err-clause-refused : goal.read_option_box_bag-returns-in-Err-clause-refused
+read_option_box_bag-returns-in-Err-clause-refused g t c = case_refuses bag_definitions bag_definitions (λ s k. k) _ _ 1 (boxed (one bag_shape)) refl (record { size = 4; align = 4 }) (record { solved = λ s k. refl }) c.args.part.bytes.now c.args.part.pos c.args.part.len 4 refl (rw (c.at-view.ensures.buffer, c.at-view.ensures.position) at c.in-Some.ensures.tag) _ _ (rw (c.part.ensures.buffer, c.part.ensures.position, c.part.ensures.length, c.in-Some.ensures.buffer, c.in-Some.ensures.position, c.in-Some.ensures.length, c.at-view.ensures.buffer, c.at-view.ensures.position) at c.in-Err.ensures.refused)
+
+pub read_option_box_bag-returns-in-Ok-clause-read : goal.read_option_box_bag-returns-in-Ok-clause-read
+read_option_box_bag-returns-in-Ok-clause-read g t c = case_read_back bag_definitions bag_definitions (λ s k. k) _ _ 1 (boxed (one bag_shape)) refl (record { size = 4; align = 4 }) (record { solved = λ s k. refl }) c.args.part.bytes.now c.args.part.pos c.args.part.len 4 refl (rw (c.at-view.ensures.buffer, c.at-view.ensures.position) at c.in-Some.ensures.tag) _ _ _ _ (rw (c.part.ensures.buffer, c.part.ensures.position, c.part.ensures.length, c.in-Some.ensures.buffer, c.in-Some.ensures.position, c.in-Some.ensures.length, c.at-view.ensures.buffer, c.at-view.ensures.position) at c.in-Ok.ensures.read)
 
 pub read_items_bag-returns-in-Err-clause-refused : goal.read_items_bag-returns-in-Err-clause-refused
 read_items_bag-returns-in-Err-clause-refused g t c = (let kept = c.loop-index.invariant in let b = c.at-list.result.bytes.now in let q = c.at-list.result.pos in let n = c.at-list.result.len in let below : c.loop-index.index < n = omega (arith, c.loop-index-test.true, c.loop-index.auto.index-end, c.len-index-end.ensures) in let h = rw (c.part.ensures.buffer, c.part.ensures.position, c.part.ensures.length, c.index.ensures.buffer, c.index.ensures.position, c.index.ensures.length) at c.in-Err.ensures.refused in let r = element_refused bag_definitions bag_shape bag_layout bag_has_layout b q (run bag_shape) n n (all_have bag_definitions bag_shape bag_layout bag_has_layout b q n (run bag_shape) n (inl (refl, refl))) bag_meaning bag_keys (g.D.Entries.entry_of c.args.deserializer.now) (g.D.Entries.entry_of c.loop-index.deserializer) c.loop-index.items.items c.loop-index.index (one bag_shape) c.in-Err.error refl below (kept.3) h in rw (c.at-list.ensures.buffer, c.at-list.ensures.position, c.at-list.ensures.length) at r)
@@ -44,7 +63,10 @@ pub read_shared_slice_bag-returns-in_ok-value-in-None-clause-refused : goal.read
 read_shared_slice_bag-returns-in_ok-value-in-None-clause-refused g t c = err_from c.finish_target.result c.finish_target.ensures.refused (λ e h. inl (h _ _ c.part-behind.result.bytes.now c.part-behind.result.len (rw c.in-None.is at c.in_ok-value.ensures.begun) c.in_ok-value-in-None.ensures.read))
 
 pub read_bag-returns-in-Err-clause-refused : goal.read_bag-returns-in-Err-clause-refused
-read_bag-returns-in-Err-clause-refused g t c = (record_refuses bag_definitions bag_shape bag_part_definitions bag_parts bag_has_parts _ _ _ _ _ (first_refuses bag_definitions no_definition (shared rc_flavor (run bag_shape)) (record { size = 8; align = 4 }) (record { solved = λ s k. refl }) no_part _ _ 0 _ _ (rw (c.part_of_record-p0.ensures.buffer, c.part_of_record-p0.ensures.position, c.part_of_record-p0.ensures.length) at c.in-Err.ensures.refused)))
+read_bag-returns-in-Err-clause-refused g t c = (record_refuses bag_definitions bag_shape bag_part_definitions bag_parts bag_has_parts _ _ _ _ _ (first_refuses bag_definitions (both bag_definitions no_definition) (option_shape (boxed (one bag_shape))) (record { size = 8; align = 4 }) (record { solved = λ s k. refl }) (part (shared rc_flavor (run bag_shape)) no_part) _ _ 0 _ _ (rw (c.part_of_record-p0.ensures.buffer, c.part_of_record-p0.ensures.position, c.part_of_record-p0.ensures.length) at c.in-Err.ensures.refused)))
+
+pub read_bag-returns-in-Err-read_shared_slice_bag-clause-refused : goal.read_bag-returns-in-Err-read_shared_slice_bag-clause-refused
+read_bag-returns-in-Err-read_shared_slice_bag-clause-refused g t c = (record_refuses bag_definitions bag_shape bag_part_definitions bag_parts bag_has_parts _ _ _ _ _ (later_refuses bag_definitions (both bag_definitions no_definition) (option_shape (boxed (one bag_shape))) (record { size = 8; align = 4 }) (record { solved = λ s k. refl }) (part (shared rc_flavor (run bag_shape)) no_part) _ _ 0 _ _ _ c.in-Ok.ensures.read.kept (first_refuses bag_definitions no_definition (shared rc_flavor (run bag_shape)) (record { size = 8; align = 4 }) (record { solved = λ s k. refl }) no_part _ _ 8 _ _ (rw (c.part_of_record-p1.ensures.buffer, c.part_of_record-p1.ensures.position, c.part_of_record-p1.ensures.length) at c.in-Err-read_shared_slice_bag.ensures.refused))))
 
 pub read_bag-returns-clause-read : goal.read_bag-returns-clause-read
-read_bag-returns-clause-read g t c = read_as (bag_has_keys_roll (record { inside = c.in-Ok.a0 })) (bag_means_roll (record { inside = c.in-Ok.a0 })) (record_read_back bag_definitions bag_shape bag_part_definitions bag_parts bag_has_parts _ _ _ _ _ _ _ (part_read_back {L = (record { size = 8; align = 4 })} {ks = (rc_keys c.in-Ok.a0.key (run bag_shape) (length c.in-Ok.a0.value.items.value.items) (list (each_meaning bag_meaning c.in-Ok.a0.value.items.value.items)) (each_keys bag_keys c.in-Ok.a0.value.items.value.items))} {ls = []} (record { solved = λ s k. refl }) (rw (c.part_of_record-p0.ensures.buffer, c.part_of_record-p0.ensures.position, c.part_of_record-p0.ensures.length) at c.in-Ok.ensures.read) no_part_read_back))
+read_bag-returns-clause-read g t c = read_as (bag_has_keys_roll (record { top = c.in-Ok.a0; inside = c.in-Ok-read_shared_slice_bag.a1 })) (bag_means_roll (record { top = c.in-Ok.a0; inside = c.in-Ok-read_shared_slice_bag.a1 })) (record_read_back bag_definitions bag_shape bag_part_definitions bag_parts bag_has_parts _ _ _ _ _ _ _ (part_read_back {L = (record { size = 8; align = 4 })} {ks = (option_keys (λ y. (bag_keys y.value)) c.in-Ok.a0)} {ls = ((rc_keys c.in-Ok-read_shared_slice_bag.a1.key (run bag_shape) (length c.in-Ok-read_shared_slice_bag.a1.value.items.value.items) (list (each_meaning bag_meaning c.in-Ok-read_shared_slice_bag.a1.value.items.value.items)) (each_keys bag_keys c.in-Ok-read_shared_slice_bag.a1.value.items.value.items)) ++ [])} (record { solved = λ s k. refl }) (rw (c.part_of_record-p0.ensures.buffer, c.part_of_record-p0.ensures.position, c.part_of_record-p0.ensures.length) at c.in-Ok.ensures.read) (part_read_back {L = (record { size = 8; align = 4 })} {ks = (rc_keys c.in-Ok-read_shared_slice_bag.a1.key (run bag_shape) (length c.in-Ok-read_shared_slice_bag.a1.value.items.value.items) (list (each_meaning bag_meaning c.in-Ok-read_shared_slice_bag.a1.value.items.value.items)) (each_keys bag_keys c.in-Ok-read_shared_slice_bag.a1.value.items.value.items))} {ls = []} (record { solved = λ s k. refl }) (rw (c.part_of_record-p1.ensures.buffer, c.part_of_record-p1.ensures.position, c.part_of_record-p1.ensures.length) at c.in-Ok-read_shared_slice_bag.ensures.read) no_part_read_back)))

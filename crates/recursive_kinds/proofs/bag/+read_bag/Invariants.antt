@@ -9,6 +9,12 @@ use Rattle.std.specs.Prelude.{◌≡◌, ◌≤◌, pos, length}
 use Rattle.std.specs.Vec.{vec_len, vec_capacity}
 use Rattle.recursive_kinds.proofs.bag.+read_bag.Given as goal
 
+abbrev pub decreases-read_box_bag : goal.decreases-read_box_bag
+decreases-read_box_bag g l = l.levels * 5 + 1
+
+abbrev pub decreases-read_option_box_bag : goal.decreases-read_option_box_bag
+decreases-read_option_box_bag g l = l.levels * 5 + 2
+
 abbrev pub decreases-read_shared_slice_bag : goal.decreases-read_shared_slice_bag
 decreases-read_shared_slice_bag g l = l.levels * 5 + 2
 

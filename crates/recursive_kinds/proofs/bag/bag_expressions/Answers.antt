@@ -2,4 +2,4 @@
 use Rattle.recursive_kinds.proofs.bag.bag_expressions.Goals as goal
 
 pub returns : goal.returns
-returns c = c.first_expression.ensures _ _ (c.shared_run_expression.ensures _ c.named_expression.ensures) c.no_expressions-rest1.ensures
+returns c = c.first_expression.ensures _ _ (c.option_expression.ensures _ (c.boxed_expression.ensures _ c.named_expression-2.ensures)) (c.first_expression-rest1.ensures _ _ (c.shared_run_expression.ensures _ c.named_expression.ensures) c.no_expressions-rest2.ensures)

@@ -8,6 +8,9 @@ decreases-read_shared_road g l = l.levels * 5 + 1
 abbrev pub decreases-read_option_shared_road : goal.decreases-read_option_shared_road
 decreases-read_option_shared_road g l = l.levels * 5 + 2
 
+abbrev pub decreases-read_weak_shared_road : goal.decreases-read_weak_shared_road
+decreases-read_weak_shared_road g l = l.levels * 5 + 1
+
 abbrev pub decreases-read_road_way : goal.decreases-read_road_way
 decreases-read_road_way g l = l.levels * 5 + 3
 
