@@ -46,6 +46,10 @@ def check_shape(it: Declaration):
         if len(it.variants) > read.MOST_VARIANTS:
             line = it.variants[read.MOST_VARIANTS].line
             raise Refused(it.path, line, f"`{it.name}` has {len(it.variants)} variants, and a tag of one byte counts {read.MOST_VARIANTS}; put some into an enum of their own")
+        if len(it.variants) > read.MOST_BESIDE_FIELDS and any(v.fields for v in it.variants):
+            line = it.variants[read.MOST_BESIDE_FIELDS].line
+            said = f"`{it.name}` has {len(it.variants)} variants, and {read.MOST_BESIDE_FIELDS} are the most where one has fields; put some into an enum of their own"
+            raise Refused(it.path, line, said)
         check_names(it, it.variants, "variant")
         if len(it.variants) == 1 and is_long(it.variants[0].fields):
             raise Refused(it.path, it.line, f"`{it.name}` has one variant, of more than {MOST_BY_NUMBER} fields; write a struct")

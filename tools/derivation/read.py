@@ -25,6 +25,8 @@ MOST_IN_ONE_BODY = 20
 MOST_FEW = 8
 MOST_PARTS = 13
 MOST_VARIANTS = 256
+# Where one has fields, so that views hold references: of more "a value is made at a variant after the 128th, of an enum that owns memory or holds a reference".
+MOST_BESIDE_FIELDS = 128
 MOST_ITEMS = 2**32 - 1
 
 # What to write in place of types that have no format.

@@ -5,7 +5,7 @@ from unittest import mock
 
 from derivation import variant_blocks
 from derivation.loads import MOST_OF_VARIANTS, Loads
-from derivation.read import MOST_BESIDE_UNITS, MOST_WITH_FIELDS
+from derivation.read import MOST_BESIDE_FIELDS, MOST_BESIDE_UNITS, MOST_WITH_FIELDS
 
 from .repository import RepositoryTest
 
@@ -30,6 +30,12 @@ class VariantBlocks(RepositoryTest):
             self.assertEqual(self.run_command(path)[0], status)
         said = f"and {MOST_BESIDE_UNITS} are the most where others have none; put some into an enum of another file"
         self.assertIn(said, self.run_command(path)[1])
+
+    def test_fewer_variants_where_one_has_fields(self):
+        units = [f"U{i}" for i in range(MOST_BESIDE_FIELDS - 1)]
+        self.assertEqual(self.run_command(self.put(f"pub enum A {{ {', '.join(['V(u8)'] + units)} }}"))[0], 0)
+        said = f"1: `A` has {MOST_BESIDE_FIELDS + 1} variants, and {MOST_BESIDE_FIELDS} are the most where one has fields; put some into an enum of their own"
+        self.assertEqual(self.refusal(f"pub enum A {{ {', '.join(['V(u8)'] + units + ['W'])} }}"), said)
 
     def test_each_variant_is_in_one_block(self):
         for count, type in ((40, "[u8; 4]"), (30, "Vec<u32>"), (70, "u32"), (6, "Vec<(String, u32)>, Option<u64>")):
