@@ -44,26 +44,8 @@ def as_read(type):
     return replace(type, name="OwnedArray", args=[within(type.args[0])], text="") if is_array(type) else within(type)
 
 
-def unproved(type, inside=False):
-    """The first array of those within other types that isn't known to be proved: of others than numbers, or in a tuple."""
-    if type.own is not None or type.parameter or not holds(type):
-        return None
-    if is_array(type):
-        item = type.args[0]
-        if holds(item):
-            return unproved(item, True) if is_array(item) and (item.args[0].name != "u8" or item.args[0].own is not None) else first(item)
-        is_number = item.own is None and item.name in formats.INTEGERS
-        return None if is_number or not inside else type
-    if type.name == "tuple" and is_remade(type):
-        return next(arg for arg in map(first, filter(holds, type.args)) if is_remade(arg))
-    return next((array for arg in type.args if (array := unproved(arg, True))), None)
-
-
-def unmade(type, in_variant=False):
+def unmade(type):
     """Why an array in a field of this type isn't made of what is read back, if so."""
-    array = first(type) if in_variant and (is_remade(type.args[0]) or is_array(type.args[0]) if is_array(type) else is_remade(type)) else unproved(type)
-    if array:
-        return f"an array in another type is read back as an `OwnedArray`; write `OwnedArray<{array.args[0].text}, {array.length}>`, of `archive_core::core_impls`"
     if type.parameter or type.name == "PhantomData" or not holds(type):
         return None
     inner = first(type)

@@ -223,7 +223,7 @@ def check_arrays(module: Module):
                 array = array_in(pointer, {"array", "OwnedArray"})
                 raise Refused(module.path, type.line, f"the check states nothing of an array in a `{pointer.name}`; put `{array.text}` into a struct of its own")
             if not it.as_tuple and not it.part_by_part:
-                why = arrays.unmade(type, it.kind == "enum")
+                why = arrays.unmade(type)
                 if why:
                     raise Refused(module.path, type.line, why)
                 continue

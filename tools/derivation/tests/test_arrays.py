@@ -39,21 +39,28 @@ class ArraysWithin(RepositoryTest):
         self.assertIn("A{x:made_option_array4_u32(a0)}", text)
 
     def test_each_holder_has_its_way(self):
-        text = self.written("struct A { x: Result<[i16; 2], String>, y: [[u16; 2]; 3] }\n")
+        text = self.written("enum A { X(Result<[bool; 2], String>), Y(([char; 3], u8)), Z([[u16; 2]; 3]) }\n")
         self.assertIn("{matchread{Ok(value)=>Ok(value.into_array()),Err(value)=>Err(value)}}", text.replace(",}", "}"))
+        self.assertIn("{let(a0,a1)=read;(a0.into_array(),a1)}", text)
         self.assertIn("{let[a0,a1,a2]=read.into_array();[a0.into_array(),a1.into_array(),a2.into_array()]}", text)
 
     def test_bytes_beside_them_are_left(self):
-        text = self.written("struct A { x: Result<[u8; 4], [u32; 2]> }\n")
+        text = self.written("struct A { x: Result<[u8; 4], [u32; 2]>, y: [[u8; 4]; 2] }\n")
         self.assertIn("{matchread{Ok(value)=>Ok(value),Err(value)=>Err(value.into_array())}}", text.replace(",}", "}"))
+        self.assertIn("y:a1.into_array()}", text)
 
     def test_a_function_is_written_once(self):
-        text = self.written("struct A { x: Option<[u32; 4]>, y: u8 }\nstruct B { x: Option<[u32; 4]> }\nstruct C { x: Option<[[u32; 2]; 2]> }\n")
+        text = self.written("struct A { x: Option<[u32; 4]>, y: (u8, [u32; 4]) }\nenum B { X(Option<[u32; 4]>), Y(Result<[u32; 4], u8>) }\nstruct C { x: [Option<[u32; 4]>; 2] }\n")
         self.assertEqual(text.count("fnmade_option_array4_u32("), 1)
-        self.assertIn("Some(value)=>Some(made_array2_array2_u32(value))", text)
+        self.assertIn("[made_option_array4_u32(a0),made_option_array4_u32(a1)]", text)
+
+    def test_an_array_of_own_values(self):
+        text = self.written("struct P { x: u8 }\nstruct A { x: Option<[P; 2]>, y: [Option<[String; 2]>; 1] }\n")
+        self.assertIn("fnmade_option_array2_p(read:Option<OwnedArray<P,2>>)->Option<[P;2]>", text)
+        self.assertIn("OwnedArray<Option<OwnedArray<String,2>>,1>", text)
 
     def test_two_runs_write_the_same(self):
-        path = self.put("struct A { x: Option<[u32; 4]>, z: Result<[u64; 2], String> }\n")
+        path = self.put("struct A { x: Option<[u32; 4]>, y: ([i8; 2], u8), z: Result<[u64; 2], String> }\n")
         self.assertEqual(self.run_command(path), (0, ""))
         once = self.text(path)
         self.assertEqual(self.run_command(path), (0, ""))
@@ -70,12 +77,6 @@ class Refused(RepositoryTest):
         for type, name in (("Vec<[u32; 4]>", "Vec"), ("Option<Box<[u8; 2]>>", "Box"), ("[Vec<[u8; 2]>; 2]", "Vec"), ("Shared<[u16; 3]>", "Shared")):
             with self.subTest(type):
                 self.assertIn(f"the check states nothing of an array in a `{name}`; put `[u", self.refused(type))
-
-    def test_what_is_not_known_to_be_proved(self):
-        for type, array in (("Option<[bool; 2]>", "bool, 2"), ("(u8, [u16; 2])", "u16, 2"), ("[[u8; 4]; 2]", "u8, 4"), ("[Option<[u32; 4]>; 2]", "u32, 4")):
-            with self.subTest(type):
-                self.assertEqual(self.refused(type), f"an array in another type is read back as an `OwnedArray`; write `OwnedArray<{array}>`, of `archive_core::core_impls`")
-        self.assertIn("write `OwnedArray<u32, 4>`", self.refusal("enum A { X, Y(Option<[u32; 4]>) }"))
 
     def test_an_array_in_the_arguments_of_a_struct(self):
         self.assertEqual(self.refused("P<[u32; 4]>"), "an array in the arguments of a struct isn't read back; write a `Vec` in place of `[u32; 4]`")

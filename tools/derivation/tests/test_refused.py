@@ -50,7 +50,6 @@ FIELDS = [
     ("Option<ArchivedU32>", "`ArchivedU32` is an archived type; write the type of its values"),
     ("Vec<(u8, Option<(u8, u8)>)>", "a tuple in a tuple or a map is too deep for the toolchain; write a struct without parameters in place of the inner one"),
     ("archive_core::core_impls::OwnedArray<[u8; 4], 2>", "an array in another type is read back as an `OwnedArray`; write `OwnedArray<u8, 4>`"),
-    ("[[u8; 4]; 2]", "an array in another type is read back as an `OwnedArray`; write `OwnedArray<u8, 4>`"),
     ("Vec<[u8; 4]>", "the check states nothing of an array in a `Vec`; put `[u8; 4]` into a struct of its own"),
     ("Option<Box<Option<archive_core::core_impls::OwnedArray<u8, 4>>>>", "the check states nothing of an array in a `Box`; put `archive_core::core_impls::OwnedArray<u8, 4>` into a struct of its own"),
     ("std::collections::BTreeMap<u8, [u8; 4]>", "the check states nothing of an array in a `BTreeMap`; put `[u8; 4]` into a struct of its own"),
