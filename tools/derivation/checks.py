@@ -2,7 +2,7 @@
 
 from typing import Callable, Dict, List, Optional, Sequence, Set
 
-from . import variant_functions
+from . import arrays, variant_functions
 from .formats import POINTERS, snake, substituted
 from .loads import MOST as MOST_LOAD
 from .loads import MOST_OF_VARIANTS, Loads
@@ -226,6 +226,11 @@ def check_arrays(module: Module):
             if pointer:
                 array = array_in(pointer, {"array", "OwnedArray"})
                 raise Refused(module.path, type.line, f"the check states nothing of an array in a `{pointer.name}`; put `{array.text}` into a struct of its own")
+            if not it.as_tuple and not it.part_by_part:
+                why = arrays.unmade(type)
+                if why:
+                    raise Refused(module.path, type.line, why)
+                continue
             is_array = type.name == "array" and type.own is None
             inner = unreturned(type.args[0], True) if is_array else unreturned(type)
             if inner:

@@ -1,6 +1,7 @@
 """Values of many fields, which a function of their own makes of those of their fields, with a proof that is written beside the module."""
 
 from . import blocks
+from .arrays import is_made
 from .common import chain, infix, numbered
 from .layout import pair, statement
 from .long import names_of, place, places
@@ -9,9 +10,9 @@ SIGNED = ("i8", "i16", "i32", "i64", "i128", "isize")
 WRITTEN = "Written by tools/derive: change the declaration, and run it again."
 
 
-def holds_array(types):
-    """Whether a field of these types is an array of the machine, which no call returns."""
-    return any(type.own is None and type.name == "array" for type in types)
+def are_made(types):
+    """Whether a field of these types has an array of the machine, which no call returns."""
+    return any(map(is_made, types))
 
 
 class Made:
@@ -75,7 +76,7 @@ fn {self.name}(values: {self.owned}) -> {self.of}
             return None
         widths = sorted({width for width, _ in signed})
         lets = "".join(f"    let e{i} : SFits {width} {value} = search rules in\n" for i, (width, value) in enumerate(signed))
-        arrays = [f"c.{call}.ensures" for call in numbered(["into_array" for type in self.types if self.formats.kind(type) == "array"])]
+        arrays = [f"c.{call}.ensures" for call in numbered([self.formats.arrays.called(type) for type in self.types if is_made(type)])]
         steps = ", ".join(arrays + [f"to_z-of_z {width} {value} e{i}" for i, (width, value) in enumerate(signed)])
         return f"""-- {WRITTEN}
 use Rattle.std.proofs.Common.{{◌≡◌, refl, arith, rules}}

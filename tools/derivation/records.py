@@ -23,7 +23,7 @@ from .formats import layout_of, snake
 from .layout import Generic, Group, flat, implementation, literal, pair, signature, statement
 from .loads import Loads
 from .long import as_parts, fields_of, is_long, nest, pattern
-from .made import WRITTEN, Made, holds_array
+from .made import WRITTEN, Made, are_made
 from .pieces import Pieces
 
 
@@ -58,7 +58,7 @@ class Record(Source):
         self.values = [f"v.{field.name}" for field in self.fields]
 
     def built(self):
-        values = [self.formats.read_value(type, name) for type, name in zip(self.types, self.names)]
+        values = [self.formats.arrays.value(type, name) for type, name in zip(self.types, self.names)]
         name = self.declaration.declared_name
         if self.declaration.form == "unit":
             return name
@@ -217,7 +217,7 @@ def serialize(record):
 def is_made_apart(record):
     """Whether a value is made of those of its fields by a function of its own, whose proof is written beside the module: of many fields, or of an array, which
     the check doesn't see to mean what was read back."""
-    return record.count > SHORT_RECORD or bool(record.pieces) or holds_array(record.types)
+    return record.count > SHORT_RECORD or bool(record.pieces) or are_made(record.types)
 
 
 def read(record):

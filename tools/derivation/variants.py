@@ -6,7 +6,7 @@ from .formats import layout_of, snake
 from .layout import Generic, Group, WIDTH, ended, flat, implementation, lay, literal, pair, statement
 from .loads import Loads
 from .long import is_long, lent, nest, pattern
-from .made import WRITTEN, Made, holds_array
+from .made import WRITTEN, Made, are_made
 from .pieces import Pieces, numbered
 from .units import Units
 from .variant_functions import Functions, are_wanted
@@ -40,7 +40,7 @@ class Case:
         loads = Loads()
         self.by_fours = loads.go_by_fours(self.types)
         self.pieces = () if loads.are_read_at_once(self.types) else loads.pieces(self.types)
-        self.is_made_apart = is_long(self.types) or bool(self.pieces) or holds_array(self.types)
+        self.is_made_apart = is_long(self.types) or bool(self.pieces) or are_made(self.types)
         self.is_long = is_long(self.types)
 
     def its_pieces(self):
@@ -57,7 +57,7 @@ class Case:
 
     def built(self):
         """The variant of what was read back."""
-        return self.pattern([self.choice.formats.read_value(type, name) for type, name in zip(self.types, self.names)])
+        return self.pattern([self.choice.formats.arrays.value(type, name) for type, name in zip(self.types, self.names)])
 
     def bound(self, end=""):
         return " ".join([self.word + end] + self.binders)

@@ -18,6 +18,7 @@ def written(module):
     """What follows the head of `module`: the marker, and the impls of each declaration."""
     formats = Formats(module)
     body = "\n".join(form(declaration)(formats, declaration) for declaration in module.declarations)
+    body = formats.arrays.all() + body
     return f"{MARK}\n\n{ghosts(formats, body)}\n{imports(formats, body)}\n{texts.text(module)}{body}"
 
 

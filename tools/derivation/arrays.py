@@ -1,0 +1,134 @@
+"""Arrays in fields. They are read back as `OwnedArray`s, of which functions of the module make the arrays, for each type one: no generic call that may fail
+returns an array that it was given.
+
+    fn f<U: Copy, const N: usize>(x: [U; N]) -> Result<[U; N], Error> { Ok(x) }
+
+Bytes in another type are read back as they are, since the library has a call of them alone. What an `Option`, a `Result`, a tuple or an array holds goes from
+one to the other as it is, so these functions return just what they were given. Clauses don't state what is behind a pointer: checks.py refuses that.
+"""
+
+from dataclasses import replace
+
+from . import formats
+
+# An array of so many arrays is taken apart by a pattern of its elements: of sixteen the search did not prove that they are the same.
+MOST_APART = 3
+
+
+def is_array(type):
+    return type.own is None and type.name == "array"
+
+
+def is_remade(type):
+    """Whether a type within another one has an array that isn't read back as it is."""
+    if type.own is not None or type.parameter or type.name == "PhantomData":
+        return False
+    return is_array(type) and (type.args[0].own is not None or type.args[0].name != "u8") or any(map(is_remade, type.args))
+
+
+def is_made(type):
+    """Whether a field of this type is made of what was read back."""
+    return is_array(type) or is_remade(type)
+
+
+def within(type):
+    """What a type within another one is read back as."""
+    if not is_remade(type):
+        return type
+    name = "OwnedArray" if is_array(type) else type.name
+    return replace(type, name=name, args=[within(arg) for arg in type.args], text="")
+
+
+def as_read(type):
+    """What a field is read back as."""
+    return replace(type, name="OwnedArray", args=[within(type.args[0])], text="") if is_array(type) else within(type)
+
+
+def unmade(type):
+    """Why an array in a field of this type isn't made of what is read back, if so."""
+    if type.parameter or type.name == "PhantomData" or not holds(type):
+        return None
+    inner = first(type)
+    if type.own is not None:
+        return f"an array in the arguments of a struct isn't read back; write a `Vec` in place of `{inner.text}`"
+    if type.name == "OwnedArray":
+        return f"an array in another type is read back as an `OwnedArray`; write `OwnedArray<{inner.args[0].text}, {inner.length}>`, of `archive_core::core_impls`"
+    if is_array(type) and int(type.length) > MOST_APART and is_remade(type.args[0]):
+        return f"an array of more than {MOST_APART} arrays isn't read back; put `{type.args[0].text}` into a struct of its own"
+    return next((why for arg in type.args if (why := unmade(arg))), None)
+
+
+def holds(type):
+    """Whether a type has an array, other than in a type that the user declared."""
+    return is_array(type) or not type.parameter and type.name != "PhantomData" and any(map(holds, type.args))
+
+
+def first(type):
+    """The first array in a type."""
+    return type if is_array(type) else next(map(first, filter(holds, type.args)))
+
+
+def words(type):
+    """A type as a part of a name."""
+    name = f"array{type.length}" if is_array(type) else f"tuple{len(type.args)}" if type.own is None and type.name == "tuple" else type.name
+    return "_".join(["unit" if name == "()" else formats.snake(name)] + [words(arg) for arg in type.args])
+
+
+class Arrays:
+    """The functions of a module that make what has arrays."""
+
+    def __init__(self, its):
+        self.formats = its
+        self.names = {}  # of each function by its type, with that type in words
+        self.texts = {}  # of each function by its name
+
+    def called(self, type):
+        """The name of the call that makes a value of this type of what is read back in its place."""
+        if is_array(type) and not is_remade(type.args[0]):
+            return "into_array"
+        spelled = self.formats.spelled(type)
+        if spelled not in self.names:
+            alike = sum(words(type) == it for it, _ in self.names.values())
+            name = f"made_{words(type)}" + (f"_{alike + 1}" if alike else "")
+            self.names[spelled] = (words(type), name)
+            self.texts[name] = self.text(name, type)
+        return self.names[spelled][1]
+
+    def value(self, type, name):
+        """A value of this type, of what was read back under this name."""
+        if not is_made(type):
+            return name
+        call = self.called(type)
+        return f"{name}.into_array()" if call == "into_array" else f"{call}({name})"
+
+    def text(self, name, type):
+        spelled = self.formats.spelled
+        made, read = spelled(type), spelled(as_read(type))
+        return f"""// A `{made}` of what is read back in its place.
+fn {name}(read: {read}) -> {made}
+    ensures {{ result ≡ read }}
+{{
+{self.body(type)}}}
+"""
+
+    def body(self, type):
+        if type.name in ("Option", "Result"):
+            arms = [("Some", type.args[0])] if type.name == "Option" else list(zip(("Ok", "Err"), type.args))
+            lines = "".join(f"        {variant}(value) => {variant}({self.within(it)}),\n" for variant, it in arms)
+            none = "        None => None,\n" if type.name == "Option" else ""
+            return f"    match read {{\n{lines}{none}    }}\n"
+        count = int(type.length) if is_array(type) else len(type.args)
+        types = type.args * count if is_array(type) else type.args
+        names = [f"a{i}" for i in range(count)]
+        open, close = "[]" if is_array(type) else "()"
+        comma = "," if not is_array(type) and count == 1 else ""
+        of = "read.into_array()" if is_array(type) else "read"
+        made = [self.within(it, name) for it, name in zip(types, names)]
+        return f"    let {open}{', '.join(names)}{comma}{close} = {of};\n    {open}{', '.join(made)}{comma}{close}\n"
+
+    def within(self, type, name="value"):
+        """The same of a value within another one, where bytes are read back as they are."""
+        return self.value(type, name) if is_remade(type) else name
+
+    def all(self):
+        return "".join(f"{text}\n" for _, text in sorted(self.texts.items()))
