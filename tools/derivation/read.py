@@ -16,10 +16,8 @@ from . import checks
 # Of a struct, and of a variant.
 MOST_FIELDS = 32
 MOST_OF_VARIANT = 16
-# Of an enum's variants that have fields: as many are proved. Where they have no functions of their own the search in `resolve` gives up at 28.
+# Of an enum's variants that have fields: as many are proved.
 MOST_WITH_FIELDS = 40
-MOST_BESIDE_UNITS = 28
-MOST_IN_ONE_BODY = 20
 # Of a struct that is archived as a tuple with names: it holds a recursive type, or has type parameters. Of more fields one with type parameters goes by aliases:
 # of a view of such a tuple, with an `i64` and a `u32` in it, "the borrow checker does not cover this function yet".
 MOST_FEW = 8
