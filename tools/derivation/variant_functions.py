@@ -210,7 +210,7 @@ use Rattle.std.proofs.Common.{{rules}}
 use Rattle.{dotted}.Goals as goal
 
 pub returns : goal.returns
-returns c = grind (c.resolve_case.ensures, c.bytes-is, rules)
+returns c = grind (c.resolve_case.ensures, rules)
 """
 
     def serialize_answers(self, case, dotted):
