@@ -181,7 +181,8 @@ class Groups:
         given = "c" if which == "resolve" else "g c"
         step = self.is_behind(number, which, given) if self.has_behind(number) else self.none_left(number, given)
         if which != "resolve":
-            return f"-- {WRITTEN}\n{self.brought(number)}use {goals} as goal\n{step}"
+            longs = "".join(self.long_serialized(case) for case in self.groups[number] if case.is_long)
+            return f"-- {WRITTEN}\n{self.brought(number)}use {goals} as goal\n{step}{longs}"
         steps = self.resolved(number)
         arms = "".join(f"  | {it} w ↦ {how}\n" for it, how in steps.items())
         return f"""-- {WRITTEN}
@@ -192,6 +193,15 @@ use {goals} as goal
 pub returns : goal.returns
 returns c = elim c.match-{self.value(number)}.branch [
 {arms}]
+"""
+
+    def long_serialized(self, case):
+        """That a variant of many fields is serialized as its function ensures: the search doesn't find it."""
+        ensures = f"c.{self.functions.name(case, 'serialize')}.ensures"
+        fields = "; ".join(f"{it} = {ensures}.{it}" for it in ("serialized", "same_value", "goes_on", "refused"))
+        return f"""
+pub returns-in-{case.name} : goal.returns-in-{case.name}
+returns-in-{case.name} g c = rw (c.in-{case.name}.is) record {{ {fields} }}
 """
 
     def resolved(self, number):

@@ -4,7 +4,7 @@ A proof by cases goes over a value that is an argument, so the type of the value
 """
 
 from .formats import snake
-from .layout import Generic, call, flat, signature, statement
+from .layout import Generic, flat, signature, statement
 from .made import WRITTEN
 
 # What an `elim` of a proof is, of which that is to be said.
@@ -51,7 +51,8 @@ class UnitFunctions:
         ensures {{ ResolvesAs ⟦<{choice.archived} as Portable>⟧ place ({its}.flat value.now resolver) result }}
     {{
         drop(resolver);
-{statement(8, "", call(f"{choice.archived}::{self.functions.unit}", [self.tag_call(), "place"]), "")}    }}
+        let Place {{ bytes, pos, .. }} = place;
+{statement(8, "", self.functions.unit_call(self.tag_call()), "")}    }}
 """
 
     def serialize(self):

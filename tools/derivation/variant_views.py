@@ -4,6 +4,10 @@ from .common import doc_lines, sealed_clauses
 from .formats import snake
 from .layout import Generic, Group, WIDTH, call, flat, implementation, signature, statement
 
+# Up to so many variants with fields one body shows. Of more, what shows a group isn't proved yet: "the borrow checker does not cover this function yet: .. a type
+# has a bound whose trait has ghost members, and the impl that meets it has a parameter at a type that this function cannot read".
+MOST_IN_BODY = 40
+
 
 def views(choice):
     f = choice.formats
@@ -12,7 +16,7 @@ def views(choice):
     f.ghost("Seen", "ShowsValueOf", "tag_of")
     f.ghost("Payloads", "payload_in")
     life = "<'a>" if any(case.count for case in choice.cases) else ""
-    groups = choice.functions.groups if choice.functions and choice.functions.groups.are else None
+    groups = choice.functions.groups if sum(case.count > 0 for case in choice.cases) > MOST_IN_BODY else None
     variants, arms, shown = [], [], []
     for case in choice.cases:
         doc = doc_lines(case.docs, f"The variant `{case.name}`.", 4)
@@ -80,7 +84,7 @@ def groups_of(choice, groups, arms, shown):
         its = arms_of(choice, groups, arms, number, "view").replace("(self, ", "(view, ").replace(" self,\n", " view,\n")
         functions.append(f"""    // Shows a variant from `{groups.groups[number][0].name}` on.
 {signature(f"fn {groups.name(number, 'view')}<'a>", [], [f"view: Ref<'a, {choice.archived}>", "tag: u8"], f"{choice.view}<'a>", 4)}
-        requires tag {{ tag_of view.entry ≡ tag }}
+        requires tag {{ tag_of view ≡ tag }}
         requires from {{ {groups.range(number)[0]} ≤ tag }}
         requires below {{ tag < {len(choice.cases)} }}
         ensures shows {{ {shown.replace("self.entry", "view.entry")} }}
