@@ -2,11 +2,7 @@
 
 from .common import doc_lines, sealed_clauses
 from .formats import snake
-from .layout import Generic, Group, WIDTH, call, flat, implementation, signature, statement
-
-# Up to so many variants with fields one body shows. Of more, what shows a group isn't proved yet: "the borrow checker does not cover this function yet: .. a type
-# has a bound whose trait has ghost members, and the impl that meets it has a parameter at a type that this function cannot read".
-MOST_IN_BODY = 40
+from .layout import Generic, Group, WIDTH, flat, implementation, signature, statement
 
 
 def views(choice):
@@ -16,7 +12,6 @@ def views(choice):
     f.ghost("Seen", "ShowsValueOf", "tag_of")
     f.ghost("Payloads", "payload_in")
     life = "<'a>" if any(case.count for case in choice.cases) else ""
-    groups = choice.functions.groups if sum(case.count > 0 for case in choice.cases) > MOST_IN_BODY else None
     variants, arms, shown = [], [], []
     for case in choice.cases:
         doc = doc_lines(case.docs, f"The variant `{case.name}`.", 4)
@@ -44,9 +39,6 @@ def views(choice):
                 f"ShowsValueOf a{i} self.entry (payload_in {i})",
             ]
         shown.append(f"{case.bound('Shown')} ↦ {' × '.join(facts)}")
-    shown = f"elim result [ {' | '.join(shown)} ]"
-    behind = groups_of(choice, groups, arms, shown) if groups else ""
-    arms = arms_of(choice, groups, arms, 0, "self") if groups else "".join(arms)
     return f"""/// What a view of an archived `{choice.name}` shows, by its tag.
 #[derive(Drop)]
 {choice.visibility}enum {choice.view}{life} {{
@@ -60,43 +52,12 @@ def views(choice):
 
 {implementation(["'a"], f"{choice.name}View", ["'a"], f"Ref<'a, {choice.archived}>")}
 {choice.brought(Shown=choice.view)}    fn variant(self) -> {choice.view}{life}
-        ensures shows {{ {shown} }}
+        ensures shows {{ elim result [ {" | ".join(shown)} ] }}
     {{
         match tag_in(self) {{
-{arms}        }}
+{"".join(arms)}        }}
     }}
 }}
-{behind}"""
-
-
-def arms_of(choice, groups, arms, number, view):
-    """The arms of a group: the last one calls the function of the next group."""
-    its = "".join(arms[tag] for tag in groups.range(number))
-    if number + 1 < len(groups.groups):
-        its += statement(12, "tag => ", call(f"{choice.archived}::{groups.name(number + 1, 'view')}", [view, "tag"]), ",")
-    return its
-
-
-def groups_of(choice, groups, arms, shown):
-    """The functions that show the variants of each group behind the first one."""
-    functions = []
-    for number in range(1, len(groups.groups)):
-        its = arms_of(choice, groups, arms, number, "view").replace("(self, ", "(view, ").replace(" self,\n", " view,\n")
-        functions.append(f"""    // Shows a variant from `{groups.groups[number][0].name}` on.
-{signature(f"fn {groups.name(number, 'view')}<'a>", [], [f"view: Ref<'a, {choice.archived}>", "tag: u8"], f"{choice.view}<'a>", 4)}
-        requires tag {{ tag_of view ≡ tag }}
-        requires from {{ {groups.range(number)[0]} ≤ tag }}
-        requires below {{ tag < {len(choice.cases)} }}
-        ensures shows {{ {shown.replace("self.entry", "view.entry")} }}
-    {{
-        match tag {{
-{its}        }}
-    }}
-""")
-    return f"""
-// What a view shows, group by group.
-impl {choice.archived} {{
-{choice.brought(Shown=choice.view)}{chr(10).join(functions)}}}
 """
 
 
@@ -105,14 +66,14 @@ def view_arm(choice, case, tag, calls):
     if not case.count:
         return f"            {tag} => {path},\n"
     if case.form == "struct" and case.count:
-        lines = "".join(statement(16, f"{name}: ", its, ",") for name, its in zip([field.name for field in case.fields], calls))
+        lines = "".join(statement(16, f"{name}: ", call, ",") for name, call in zip([field.name for field in case.fields], calls))
         return f"            {tag} => {path} {{\n{lines}            }},\n"
     if len(calls) == 1:
-        (only,) = calls
-        one = f"            {tag} => {path}({flat(only)}),\n"
-        if len(one) <= WIDTH + 1 and len(flat(only)) <= 60:
+        call = calls[0]
+        one = f"            {tag} => {path}({flat(call)}),\n"
+        if len(one) <= WIDTH + 1 and len(flat(call)) <= 60:
             return one
-    lines = "".join(statement(16, f"let {name} = ", its, ";") for name, its in zip(case.names, calls))
+    lines = "".join(statement(16, f"let {name} = ", call, ";") for name, call in zip(case.names, calls))
     made = statement(16, "", Group(f"{path}(", case.names, ")"), "")
     return f"            {tag} => {{\n{lines}{made}            }}\n"
 
@@ -135,9 +96,9 @@ def seals(choice):
             head = signature(f"fn {name}", [], ["self"], f"Seal<'a, {format}>", 4)
             doc = doc_lines(field.docs, f"The field `{field.name}` of `{case.name}`.", 4)
             heads.append(f"{doc}{head}\n        requires come_to {{ sealed self }}\n        requires tag {{ tag self ≡ {case.tag} }};\n")
-            its = Generic("sealed_part_in_case", [choice.archived, format], ["self", str(case.tag), str(i), str(offset)])
+            call = Generic("sealed_part_in_case", [choice.archived, format], ["self", str(case.tag), str(i), str(offset)])
             clauses = sealed_clauses(pointee, format, offset, f.definitions(field.type)).replace("        ensures", f"        requires tag {{ seal_tag self ≡ {case.tag} }}\n        ensures", 1)
-            bodies.append(f"{head}\n{clauses}    {{\n{statement(8, '', its, '')}    }}\n")
+            bodies.append(f"{head}\n{clauses}    {{\n{statement(8, '', call, '')}    }}\n")
     return f"""/// The fields of an archived `{choice.name}`, as seals. The caller must ensure that the tag is the variant's.
 {choice.visibility}trait {choice.name}Seal<'a> {{
     // The seal shows a part of a buffer that was checked.

@@ -49,13 +49,6 @@ class VariantGroups(RepositoryTest):
         for place in ("AArchive/resolve", "ASerialize/serialize", f"ArchivedA/resolve_from_{MOST_IN_GROUP}", f"ArchivedA/serialize_from_{MOST_IN_GROUP}"):
             self.assertTrue(self.text(self.file.replace("src/types.rt", f"proofs/types/{place}/Answers.antt")))
 
-    def test_views_are_shown_group_by_group(self):
-        count = 2 * MOST_IN_GROUP + 3
-        text = self.written(count)
-        bodies = re.split(r"^    (?:pub )?fn ", text[text.index("pub enum ViewOfA"):text.index("pub trait ASeal")], flags=re.M)
-        shown = [sorted({int(it) for it in re.findall(r"ViewOfA::V(\d+)\(", body)}) for body in bodies]
-        self.assertEqual([its for its in shown if its], [list(range(16)), list(range(16, 32)), list(range(32, count))])
-
     def test_variants_without_fields_are_behind_all_groups(self):
         for units in (1, 8):
             with self.subTest(units):
