@@ -2,7 +2,7 @@
 
 from typing import Callable, Dict, List, Optional, Sequence, Set
 
-from . import arrays, variant_functions
+from . import arrays
 from .formats import POINTERS, snake, substituted
 from .loads import MOST as MOST_LOAD
 from .loads import MOST_OF_VARIANTS, Loads
@@ -158,15 +158,10 @@ def check_long(module: Module, fields: List[Field]):
 def check_with_fields(module: Module, it: Declaration):
     """Refuses the first variant with fields that is one too many."""
     with_fields = [v for v in it.variants if v.fields]
-    most, kind = read.MOST_WITH_FIELDS, ""
-    if not variant_functions.are_proved(it):
-        most, kind = read.MOST_IN_ONE_BODY, " where it has type parameters, a variant of more than 8 fields or shared values"
-    elif len(with_fields) < len(it.variants):
-        most, kind = read.MOST_BESIDE_UNITS, " where others have none"
-    if it.part_by_part or len(with_fields) <= most:
+    if it.part_by_part or len(with_fields) <= read.MOST_WITH_FIELDS:
         return
-    said = f"`{it.name}` has {len(with_fields)} variants with fields, and {most} are the most{kind}; put some into an enum of another file"
-    raise Refused(module.path, with_fields[most].line, said)
+    said = f"`{it.name}` has {len(with_fields)} variants with fields, and {read.MOST_WITH_FIELDS} are the most; put some into an enum of another file"
+    raise Refused(module.path, with_fields[read.MOST_WITH_FIELDS].line, said)
 
 
 def check_variants(module: Module, loads: Loads, it: Declaration):

@@ -7,14 +7,16 @@ type with their number, `UnitVariants<250, ()>`. Each arm with a call of the lib
 from . import variant_blocks
 from .formats import snake
 from .layout import Generic, Group, flat, lay, statement
-
-# From so many on.
-FROM = 8
+from .variant_functions import FROM, go_in_groups
 
 
 def go_together(declaration):
-    """Whether the variants without fields are written together: not of an enum with arguments, whose type a proof by cases would have to name with them."""
-    return not declaration.part_by_part and not declaration.instance_of and sum(not v.fields for v in declaration.variants) >= FROM
+    """Whether the variants without fields are written together: not of an enum with arguments, whose type a proof by cases would have to name with them, unless
+    its calls go in groups."""
+    count = sum(not v.fields for v in declaration.variants)
+    if declaration.part_by_part or go_in_groups(declaration):
+        return count > 0 and not declaration.part_by_part
+    return not declaration.instance_of and count >= FROM
 
 
 def types_in_turn(declaration):

@@ -8,26 +8,38 @@ from .formats import SHARING
 from .layout import Generic, call, signature, statement
 from .long import is_long
 from .made import WRITTEN
-from .variant_groups import Groups
+from .variant_groups import MOST_IN_BODY, Groups
 
 # Up to so many variants with fields have their calls in one body.
 MOST_AT_ONCE = 8
+# And where the enum isn't a plain one.
+MOST_AT_ONCE_OTHERS = 20
+# From so many on variants without fields go together, where the calls aren't in groups.
+FROM = 8
 # What resolves variants without fields that go together.
 UNIT = "resolve_unit"
 
 
 def are_wanted(declaration):
     """Whether the variants of an enum have functions of their own."""
-    return count_with_fields(declaration) > MOST_AT_ONCE and are_proved(declaration)
+    return count_with_fields(declaration) > (MOST_AT_ONCE if is_plain(declaration) else MOST_AT_ONCE_OTHERS)
 
 
 def count_with_fields(declaration):
     return sum(bool(variant.fields) for variant in declaration.variants)
 
 
-def are_proved(declaration):
-    """Whether such functions are: not of an enum with arguments, of a variant of many fields, or of what is shared."""
+def is_plain(declaration):
+    """Whether an enum has no arguments, no variant of many fields, and nothing that is shared."""
     return not declaration.instance_of and not any(is_long(variant.fields) for variant in declaration.variants) and not shares(declaration, [])
+
+
+def go_in_groups(declaration):
+    """Whether the calls of these functions go in groups."""
+    with_fields = count_with_fields(declaration)
+    without = len(declaration.variants) - with_fields
+    is_much = with_fields + (without if without < FROM else 0) > MOST_IN_BODY
+    return are_wanted(declaration) and (is_much or not is_plain(declaration))
 
 
 def shares(declaration, seen):
@@ -53,7 +65,8 @@ class Functions:
         self.its = f"⟦<{choice.name} as Archive>⟧"
         self.formats.ghost("SourceOutcomes", "Serializes")
         self.formats.ghost("Seen", "part_tag")
-        self.groups = Groups(self)
+        self.unit = UNIT
+        self.groups = Groups(self, go_in_groups(choice.declaration))
 
     # ---- the calls of them ----
 
@@ -79,7 +92,7 @@ class Functions:
         choice = self.choice
         brought = choice.brought(own=choice.name)
         if choice.units.are:
-            functions = functions + [self.resolve_unit()]
+            functions = functions + [self.resolve_unit()] + self.groups.units()
         return f"""// What is done variant by variant.
 impl {choice.archived} {{
 {brought}{chr(10).join(functions)}}}
@@ -157,11 +170,14 @@ impl {choice.archived} {{
         """Those that are written beside the module, by their paths in the crate."""
         choice, units = self.choice, self.choice.units
         out = self.groups.proofs(module, dotted) or {f"proofs/{module}/{choice.name}Archive/resolve/Answers.antt": self.resolve_answers(dotted)}
-        if units.are:
+        if units.are and not self.groups.are:
             brought, of_units = units.serialize_answers(dotted)
             goals = f"use Rattle.{dotted}.{choice.name}Serialize.serialize.Goals as goal"
             out[f"proofs/{module}/{choice.name}Serialize/serialize/Answers.antt"] = f"-- {WRITTEN}\n{brought}{goals}\n{of_units}"
         for case in self.cases:
+            if case.is_long:
+                name = self.name(case, "resolve")
+                out[f"proofs/{module}/{choice.archived}/{name}/Answers.antt"] = self.long_answers(f"{dotted}.{choice.archived}.{name}")
             if case.count > 2:
                 name = self.name(case, "serialize")
                 out[f"proofs/{module}/{choice.archived}/{name}/Answers.antt"] = self.serialize_answers(case, f"{dotted}.{choice.archived}.{name}")
@@ -185,6 +201,16 @@ use {goals} as goal
 pub returns : goal.returns
 returns c = elim c.match-self.branch [
 {arms}]
+"""
+
+    def long_answers(self, dotted):
+        """That a variant of many fields is resolved as it is flat."""
+        return f"""-- {WRITTEN}
+use Rattle.std.proofs.Common.{{rules}}
+use Rattle.{dotted}.Goals as goal
+
+pub returns : goal.returns
+returns c = grind (c.resolve_case.ensures, rules)
 """
 
     def serialize_answers(self, case, dotted):

@@ -1,11 +1,13 @@
 """Enums of more variants than one body calls the functions of (variant_functions.py): their calls go in groups.
 
 Behind the variants of a group its body calls a function that has those of the next one, so a body takes what it would take in an enum of as many variants as
-are in a group. That function requires that the value is none of the variants before it, or that its tag isn't.
+are in a group. That function requires that the value is none of the variants before it, or that its tag is at least the first of its own. Variants without
+fields are behind all groups where a value is looked at (variant_units.py), and in the group that their tags are in where a tag is.
 """
 
 from .layout import call, signature, statement
 from .made import WRITTEN
+from .variant_units import AS_TYPE, UnitFunctions
 
 # Up to so many variants have their calls in one body.
 MOST_IN_BODY = 28
@@ -15,7 +17,7 @@ MOST_IN_GROUP = 16
 
 def groups_of(cases, one_body):
     """The variants group by group, in order; one group of them all where they are to have one body."""
-    if one_body or len(cases) <= MOST_IN_BODY:
+    if one_body:
         return [cases]
     return [cases[begin : begin + MOST_IN_GROUP] for begin in range(0, len(cases), MOST_IN_GROUP)]
 
@@ -23,18 +25,25 @@ def groups_of(cases, one_body):
 class Groups:
     """The groups of an enum's variants, and the functions of those behind the first one."""
 
-    def __init__(self, functions):
+    def __init__(self, functions, are):
         self.functions = functions
         self.choice = functions.choice
-        self.groups = groups_of(functions.cases, self.choice.units.are)
-        if len(self.groups) > 1:
+        self.are = are
+        self.groups = groups_of(functions.cases, not are)
+        self.of_units = UnitFunctions(self) if are and self.choice.units.are else None
+        self.ends = [group[0].tag for group in self.groups[1:]] + [len(self.choice.cases)]
+        if are:
             self.choice.formats.ghost("std.specs.Prelude", "◌<◌", "◌≤◌")
 
     # ---- the calls of them ----
 
+    def has_behind(self, number):
+        """Whether a group has something behind it: another one, or the variants without fields."""
+        return number + 1 < len(self.groups) or self.of_units is not None
+
     def behind(self, number, which, pattern, arguments):
-        """The arm that calls the function of the group behind one; nothing behind the last."""
-        if number + 1 == len(self.groups):
+        """The arm that calls the function of what is behind a group; nothing behind the last."""
+        if not self.has_behind(number):
             return ""
         return statement(12, f"{pattern} => ", call(f"{self.choice.archived}::{self.name(number + 1, which)}", arguments), ",")
 
@@ -45,10 +54,36 @@ class Groups:
         return self.behind(number, "serialize", "_", [value, "serializer"])
 
     def read_behind(self, number):
-        return self.behind(number, "read", "tag", ["tag", "alloc", "part", "deserializer"])
+        """The arm of the tags that no variant of a group has: those without fields up to the next group, and what is from that one on."""
+        units, archived = self.units_in(number), self.choice.archived
+        is_last = number + 1 == len(self.groups)
+        others = "" if is_last else call(f"{archived}::{self.name(number + 1, 'read')}", ["tag", "alloc", "part", "deserializer"])
+        if not units:
+            return statement(12, "tag => ", others, ",") if others else ""
+        unit = call(f"{archived}::{self.of_units.name('read')}", [f"{self.of_units.maker(number)}(tag)", "tag", "alloc", "part", "deserializer"])
+        if is_last:
+            return statement(12, "tag => ", unit, ",")
+        return f"""            tag => {{
+                if tag < {self.ends[number]} {{
+{statement(20, "", unit, "")}                }} else {{
+{statement(20, "", others, "")}                }}
+            }}
+"""
 
     def name(self, number, which):
-        return f"{which}_from_{self.groups[number][0].tag}"
+        return f"{which}_from_{self.groups[number][0].tag}" if number < len(self.groups) else self.of_units.name(which)
+
+    def range(self, number):
+        """The tags of a group: from its first on, of the first group from 0 on."""
+        return range(self.ends[number - 1] if number else 0, self.ends[number])
+
+    def units_in(self, number):
+        """The variants without fields whose tags are in a group."""
+        return [self.choice.cases[tag] for tag in self.range(number) if self.of_units and not self.choice.cases[tag].count]
+
+    def is_closed(self, number, case):
+        """Whether the arm of a variant is the last of its body: all other tags were before."""
+        return number + 1 == len(self.groups) and case is self.groups[number][-1] and not self.units_in(number)
 
     # ---- the functions ----
 
@@ -61,13 +96,21 @@ class Groups:
             out.append(self.read(number, read_arms(number)))
         return out
 
-    def none_before(self, number, value):
-        """That a value is none of the variants before a group."""
-        return f"elim {value} [ " + "".join(f"{case.bound()} ↦ ⊥ | " for case in self.before(number)) + "_ ↦ Unit {0} ]"
+    def units(self):
+        """The functions of the variants without fields."""
+        return self.of_units.texts() if self.of_units else []
+
+    def makers(self):
+        """Those that make a variant without fields of its tag, of each group that has some."""
+        return "".join(self.of_units.made(number) for number in range(len(self.groups)) if self.units_in(number))
+
+    def none_before(self, number, value, typed=""):
+        """That a value is none of the variants before a group. Within a proof the type of an `elim` is to be said."""
+        return f"elim {value} {typed}[ " + "".join(f"{case.bound()} ↦ ⊥ | " for case in self.before(number)) + "_ ↦ Unit {0} ]"
 
     def matched(self, number, arms):
         """The `match` of a value: in the last group all others were before."""
-        other = "            _ => unreachable!(),\n" if number + 1 == len(self.groups) else ""
+        other = "" if self.has_behind(number) else "            _ => unreachable!(),\n"
         return f"        match value {{\n{arms}{other}        }}\n"
 
     def resolve(self, number, arms):
@@ -125,18 +168,21 @@ class Groups:
         choice = self.choice
         for number in range(len(self.groups)):
             owner = {"resolve": f"{choice.name}Archive.resolve", "serialize": f"{choice.name}Serialize.serialize"}
-            for which in owner if len(self.groups) > 1 else ():
+            for which in owner if self.are else ():
                 place = owner[which] if number == 0 else f"{choice.archived}.{self.name(number, which)}"
                 out[f"proofs/{module}/{place.replace('.', '/')}/Answers.antt"] = self.answers(number, which, f"{dotted}.{place}")
+        if self.of_units:
+            out.update(self.of_units.proofs(module, dotted))
         return out
 
     def answers(self, number, which, dotted):
         """That the value is behind the variants of the group or, in the last one, that no other is left; and that each variant is resolved as it is flat."""
         goals = f"Rattle.{dotted}.Goals"
         given = "c" if which == "resolve" else "g c"
-        step = self.none_left(number, given) if number + 1 == len(self.groups) else self.is_behind(number, which, given)
+        step = self.is_behind(number, which, given) if self.has_behind(number) else self.none_left(number, given)
         if which != "resolve":
-            return f"-- {WRITTEN}\n{self.brought(number)}use {goals} as goal\n{step}"
+            longs = "".join(self.long_serialized(case) for case in self.groups[number] if case.is_long)
+            return f"-- {WRITTEN}\n{self.brought(number)}use {goals} as goal\n{step}{longs}"
         steps = self.resolved(number)
         arms = "".join(f"  | {it} w ↦ {how}\n" for it, how in steps.items())
         return f"""-- {WRITTEN}
@@ -149,13 +195,21 @@ returns c = elim c.match-{self.value(number)}.branch [
 {arms}]
 """
 
+    def long_serialized(self, case):
+        """That a variant of many fields is serialized as its function ensures: the search doesn't find it."""
+        ensures = f"c.{self.functions.name(case, 'serialize')}.ensures"
+        fields = "; ".join(f"{it} = {ensures}.{it}" for it in ("serialized", "same_value", "goes_on", "refused"))
+        return f"""
+pub returns-in-{case.name} : goal.returns-in-{case.name}
+returns-in-{case.name} g c = rw (c.in-{case.name}.is) record {{ {fields} }}
+"""
+
     def resolved(self, number):
         """How each arm of `resolve` is proved."""
-        of = self.functions
-        calls = {f"in-{case.name}": of.name(case, "resolve") if case.count else "" for case in self.groups[number]}
-        if number + 1 < len(self.groups):
+        calls = {f"in-{case.name}": self.functions.name(case, "resolve") for case in self.groups[number]}
+        if self.has_behind(number):
             calls["in_default"] = self.name(number + 1, "resolve")
-        return {step: f"grind (w.{it}.ensures, w.bytes-is, w.result-is, rules)" if it else "search rules" for step, it in calls.items()}
+        return {step: f"grind (w.{it}.ensures, w.bytes-is, w.result-is, rules)" for step, it in calls.items()}
 
     def value(self, number):
         return "value" if number else "self"
@@ -169,46 +223,37 @@ returns c = elim c.match-{self.value(number)}.branch [
         declared = choice.declaration.home("specs", "declared")
         names = ", ".join(sorted(f"{case.name} as {case.word}" for case in self.before(number + 1)))
         return f"""use Rattle.std.proofs.Common.{{◌≡◌, refl}}
-use Rattle.{declared}.{choice.name}.{{{choice.name}}}
-use Rattle.{declared}.{choice.name}.TheVariants.{{{names}}}
+use Rattle.{declared}.{choice.declaration.declared_name}.TheVariants.{{{names}}}
 """
 
-    def none_here(self, number, otherwise, absurd):
-        """The proof of something of the value, which is none of the variants up to this group, by cases."""
-        value = f"c.args.{self.value(number)}.now"
+    def none_here(self, number, goal, otherwise):
+        """The proof of something of the value `v`, which is none of the variants up to this group, by cases. The type of the value has no name here, since it may have
+        arguments."""
+        value, absurd = f"c.args.{self.value(number)}.now", "absurd " if otherwise else ""
+        here = self.none_before(number, "v", AS_TYPE) if number else "Unit {0}"
         before = "".join(f"{case.bound()} ↦ λ e before. {absurd}before | " for case in self.before(number))
         own = " | ".join(f"{case.bound()} ↦ λ e before. {absurd}(c.in_default.not-{' '.join([case.name] + case.binders)} e)" for case in self.groups[number])
         known = "c.requires.from" if number else "tt"
-        goal, other = ("IsBehind v", f" | v ↦ λ e before. {otherwise}") if otherwise else ("⊥", "")
-        return f"(elim {value} as (λ v. {value} ≡ v → IsHere v → {goal}) [ {before}{own}{other} ]) refl {known}"
-
-    def is_here(self, number):
-        name = self.choice.name
-        return f"""
--- It is none of the variants before this group.
-abbrev IsHere : {name} → Type 0
-IsHere v = {self.none_before(number, "v") if number else "Unit {0}"}
-"""
+        other = f" | v ↦ λ e before. {otherwise}" if otherwise else ""
+        return f"(elim {value} as (λ v. {value} ≡ v → ({here}) → ({goal})) [ {before}{own}{other} ]) refl {known}"
 
     def is_behind(self, number, which, given):
         """That a value that is none of the variants before a group, nor of its own, is none of those before the next one."""
-        step, proof = f"{self.name(number + 1, which)}-requires", self.none_here(number, "tt", "absurd ")
+        step, proof = f"{self.name(number + 1, which)}-requires", self.none_here(number, self.none_before(number + 1, "v", AS_TYPE), "tt")
         if which == "serialize":
             proof = f"record {{ from = {proof} }}"  # its only clause
         else:
             step += "-clause-from"
-        return f"""{self.is_here(number)}
--- Nor one of its own.
-abbrev IsBehind : {self.choice.name} → Type 0
-IsBehind v = {self.none_before(number + 1, "v")}
-
+        return f"""
+-- It is none of the variants before this group, nor one of its own.
 pub {step} : goal.{step}
 {step} {given} = {proof}
 """
 
     def none_left(self, number, given):
         """That a value that is none of the variants before the last group is one of its own."""
-        return f"""{self.is_here(number)}
+        return f"""
+-- It is none of the variants before this group.
 pub unreachable-requires : goal.unreachable-requires
-unreachable-requires {given} = {self.none_here(number, "", "")}
+unreachable-requires {given} = {self.none_here(number, "⊥", "")}
 """

@@ -257,8 +257,15 @@ def cases_of(choice, number):
     return choice.functions.groups.groups[number] if choice.functions else choice.units.apart()
 
 
+def goes_in_groups(choice):
+    """Whether the calls of its variants' functions go in groups."""
+    return choice.functions is not None and choice.functions.groups.are
+
+
 def resolve_arms(choice, number, value):
-    arms = "".join(resolve_arm(choice, case) for case in cases_of(choice, number)) + choice.units.resolve_arm()
+    arms = "".join(resolve_arm(choice, case) for case in cases_of(choice, number))
+    if not goes_in_groups(choice):
+        arms += choice.units.resolve_arm()
     return arms + (choice.functions.groups.resolve_behind(number, value) if choice.functions else "")
 
 
@@ -320,7 +327,8 @@ def serialize_arms(choice, number, value):
         else:
             made = f"{choice.resolver}::{case.name}" + ("(kept)" if case.count else "")
             arms.append(match_arm(case.pattern(), serialize_call(case), "kept" if case.count else "()", made, lending(case, 16)))
-    arms += choice.units.serialize_arm(match_arm)
+    if not goes_in_groups(choice):
+        arms += choice.units.serialize_arm(match_arm)
     return "".join(arms) + (choice.functions.groups.serialize_behind(number, value) if choice.functions else "")
 
 
@@ -352,18 +360,19 @@ def read_values(case):
 def read_arms(choice, number):
     arms = []
     for case in cases_of(choice, number):
-        tag = "_" if case is choice.cases[-1] and not choice.units.are else str(case.tag)
+        is_last = choice.functions.groups.is_closed(number, case) if goes_in_groups(choice) else case is choice.cases[-1] and not choice.units.are
+        tag = "_" if is_last else str(case.tag)
         if choice.functions:
             arms.append(choice.functions.arm(case, tag, "read", ["alloc", "part", "deserializer"]))
         else:
             arms.append(match_arm(tag, read_call(case), *read_values(case)))
-    arms += choice.units.read_arm()
-    return "".join(arms) + (choice.functions.groups.read_behind(number) if choice.functions else "")
+    return "".join(arms + ([choice.functions.groups.read_behind(number)] if goes_in_groups(choice) else choice.units.read_arm()))
 
 
 def read(choice):
     choice.formats.use("archive_core::fields", "known_tag", "read_case")
-    made = "".join(f"{made_of(case).text(case.names, case.built())}\n" for case in choice.cases if case.is_made_apart) + choice.units.made()
+    made = "".join(f"{made_of(case).text(case.names, case.built())}\n" for case in choice.cases if case.is_made_apart)
+    made += choice.functions.groups.makers() if goes_in_groups(choice) else choice.units.made()
     made = "".join(f"{case.its_pieces().text()}\n" for case in choice.cases if case.pieces) + made
     return made + deserialize(choice, choice.units.matched("known_tag::<Self>(part)", read_arms(choice, 0)))
 

@@ -5,7 +5,7 @@ from unittest import mock
 
 from derivation import variant_blocks
 from derivation.loads import MOST_OF_VARIANTS, Loads
-from derivation.read import MOST_BESIDE_FIELDS, MOST_BESIDE_UNITS, MOST_WITH_FIELDS
+from derivation.read import MOST_BESIDE_FIELDS, MOST_WITH_FIELDS
 
 from .repository import RepositoryTest
 
@@ -24,12 +24,29 @@ class VariantBlocks(RepositoryTest):
         said = f"types.rt:1: `A` has {MOST_WITH_FIELDS + 1} variants with fields, and {MOST_WITH_FIELDS} are the most; put some into an enum of another file"
         self.assertIn(said, self.run_command(path)[1])
 
-    def test_fewer_beside_others_without_fields(self):
-        for count, status in ((MOST_BESIDE_UNITS, 0), (MOST_BESIDE_UNITS + 1, 2)):
-            path = self.put(f"pub enum A {{ {', '.join(['X'] + [f'V{i}(u8)' for i in range(count)])} }}")
-            self.assertEqual(self.run_command(path)[0], status)
-        said = f"and {MOST_BESIDE_UNITS} are the most where others have none; put some into an enum of another file"
-        self.assertIn(said, self.run_command(path)[1])
+    def test_as_many_beside_any_number_of_others(self):
+        for units in (1, MOST_BESIDE_FIELDS - MOST_WITH_FIELDS - 1):
+            with self.subTest(units):
+                declared = ", ".join([f"U{i}" for i in range(units)] + [f"V{i}(u8)" for i in range(MOST_WITH_FIELDS)])
+                self.assertEqual(self.run_command(self.put(f"pub enum A {{ {declared} }}"))[0], 0)
+                said = f"1: `A` has {MOST_WITH_FIELDS + 1} variants with fields, and {MOST_WITH_FIELDS} are the most; put some into an enum of another file"
+                self.assertEqual(self.refusal(f"pub enum A {{ {declared}, W(u8) }}"), said)
+
+    def test_as_many_of_what_is_shared_or_long_or_has_parameters(self):
+        fields = [f"V{i}(u8)" for i in range(MOST_WITH_FIELDS - 1)]
+        shared = "use archive_core::rc::SharedStr;\npub struct B { x: Vec<SharedStr> }\n"
+        for head, name, last, alias in (
+            (shared, "A", "W(B)", ""),
+            ("", "A", f"W({', '.join(['u8'] * 9)})", ""),
+            ("", "E<T>", "W(T)", "\npub type A = E<u8>;"),
+        ):
+            for more, status in (([], 0), (["X(u8)"], 2)):
+                with self.subTest(name + last, status=status):
+                    path = self.put(f"{head}pub enum {name} {{ {', '.join(fields + [last] + more)} }}{alias}")
+                    found, said = self.run_command(path)
+                    self.assertEqual(found, status)
+                    if more:
+                        self.assertIn(f"has {MOST_WITH_FIELDS + 1} variants with fields, and {MOST_WITH_FIELDS} are the most; put some", said)
 
     def test_fewer_variants_where_one_has_fields(self):
         units = [f"U{i}" for i in range(MOST_BESIDE_FIELDS - 1)]

@@ -4,8 +4,7 @@ import os
 import re
 from unittest import mock
 
-from derivation.read import MOST_IN_ONE_BODY
-from derivation.variant_functions import MOST_AT_ONCE
+from derivation.variant_functions import MOST_AT_ONCE, MOST_AT_ONCE_OTHERS
 
 from .repository import RepositoryTest
 
@@ -64,18 +63,25 @@ class VariantFunctions(RepositoryTest):
         self.assertIn("ArchivedA/serialize_variant_24/Answers.antt", self.proofs())
         self.assertNotIn("ArchivedA/serialize_variant_0/Answers.antt", self.proofs())
 
-    def test_what_is_not_proved_has_none(self):
-        fields = [f"V{i}(u8)" for i in range(MOST_AT_ONCE)]
-        shared = f"use archive_core::rc::SharedStr;\npub struct B {{ x: Vec<SharedStr> }}\npub enum A {{ {', '.join(fields + ['W(B)'])} }}"
-        long = f"pub enum A {{ {', '.join(fields + ['W(' + ', '.join(['u8'] * 9) + ')'])} }}"
-        generic = f"pub enum E<T> {{ {', '.join(fields + ['W(T)'])} }}\npub type A = E<u8>;"
-        for text in (shared, long, generic):
-            with self.subTest(text):
-                path = self.put(text)
-                self.assertEqual(self.run_command(path), (0, ""))
-                self.assertEqual(self.functions(self.text(path), "read"), [])
+    def others(self, count):
+        """Enums of so many variants with fields that aren't plain."""
+        fields = [f"V{i}(u8)" for i in range(count - 1)]
+        return (
+            f"use archive_core::rc::SharedStr;\npub struct B {{ x: Vec<SharedStr> }}\npub enum A {{ {', '.join(fields + ['W(B)'])} }}",
+            f"pub enum A {{ {', '.join(fields + ['W(' + ', '.join(['u8'] * 9) + ')'])} }}",
+            f"pub enum E<T> {{ {', '.join(fields + ['W(T)'])} }}\npub type A = E<u8>;",
+        )
 
-    def test_what_is_not_proved_has_fewer(self):
-        fields = [f"V{i}(u8)" for i in range(MOST_IN_ONE_BODY)]
-        said = f"1: `A` has {MOST_IN_ONE_BODY + 1} variants with fields, and {MOST_IN_ONE_BODY} are the most where it has type parameters"
-        self.assertIn(said, self.refusal(f"pub enum A {{ {', '.join(fields + ['W(' + ', '.join(['u8'] * 9) + ')'])} }}"))
+    def test_what_is_not_plain_has_them_where_it_is_larger(self):
+        for count, wanted in ((MOST_AT_ONCE_OTHERS, []), (MOST_AT_ONCE_OTHERS + 1, list(range(MOST_AT_ONCE_OTHERS + 1)))):
+            for text in self.others(count):
+                with self.subTest(text):
+                    path = self.put(text)
+                    self.assertEqual(self.run_command(path), (0, ""))
+                    self.assertEqual(self.functions(self.text(path), "read"), wanted)
+
+    def test_a_proof_is_written_for_a_variant_of_many_fields(self):
+        self.file = self.put(self.others(MOST_AT_ONCE_OTHERS + 1)[1])
+        self.assertEqual(self.run_command(self.file), (0, ""))
+        for which in ("resolve", "serialize"):
+            self.assertIn(f"ArchivedA/{which}_variant_{MOST_AT_ONCE_OTHERS}/Answers.antt", self.proofs())

@@ -11,7 +11,7 @@ from .repository import RepositoryTest
 class VariantGroups(RepositoryTest):
     def written(self, count, more=()):
         self.file = self.put(f"pub enum A {{ {', '.join([f'V{i}(u8)' for i in range(count)] + list(more))} }}")
-        with mock.patch("derivation.read.MOST_WITH_FIELDS", 256), mock.patch("derivation.read.MOST_BESIDE_UNITS", 256):
+        with mock.patch("derivation.read.MOST_WITH_FIELDS", 256):
             self.assertEqual(self.run_command(self.file), (0, ""))
         return self.text(self.file)
 
@@ -49,7 +49,37 @@ class VariantGroups(RepositoryTest):
         for place in ("AArchive/resolve", "ASerialize/serialize", f"ArchivedA/resolve_from_{MOST_IN_GROUP}", f"ArchivedA/serialize_from_{MOST_IN_GROUP}"):
             self.assertTrue(self.text(self.file.replace("src/types.rt", f"proofs/types/{place}/Answers.antt")))
 
-    def test_a_variant_without_fields_has_its_place(self):
-        text = self.written(MOST_IN_BODY, ["U", "W(u8)"])
-        group = text[text.index(f"fn resolve_from_{MOST_IN_GROUP}"):]
-        self.assertIn("A::U => {", group[: group.index("fn serialize_from_")])
+    def test_variants_without_fields_are_behind_all_groups(self):
+        for units in (1, 8):
+            with self.subTest(units):
+                text = self.written(MOST_IN_BODY + 1, [f"U{i}" for i in range(units)] + ["W(u8)"])
+                self.assertEqual(text.count("ArchivedA::resolve_without_fields("), 1)
+                self.assertEqual(text.count("ArchivedA::serialize_without_fields("), 1)
+                head = text[text.index("fn serialize_without_fields"):]
+                head = head[: head.index("match ")]
+                self.assertEqual([int(it) for it in re.findall(r"AV(\d+) a0 ↦ ⊥", head)], list(range(MOST_IN_BODY + 1)))
+                self.assertIn(f"UnitVariants<{units}," if units > 1 else "UnitVariants<1,", text)
+                self.assertNotIn("unreachable!()", text[text.index("fn resolve_from_"):text.index("fn serialize_from_")])
+
+    def test_variants_without_fields_are_read_in_the_group_of_their_tags(self):
+        fields = [f"V{i}(u8)" for i in range(MOST_IN_BODY + 1)]
+        self.file = self.put(f"pub enum A {{ {', '.join(['X', 'Y'] + fields[:20] + ['Z'] + fields[20:])} }}")
+        self.assertEqual(self.run_command(self.file), (0, ""))
+        text = self.text(self.file)
+        makers = dict(re.findall(r"^fn a_without_fields_from_(\d+)\(.*?\{\n    (.*?)\n\}$", text, re.M | re.S))
+        self.assertEqual(sorted(makers), ["0", "18"])
+        self.assertIn("0 => A::X,", makers["0"])
+        self.assertIn("_ => A::Y,", makers["0"])
+        self.assertIn("_ => A::Z,", makers["18"])
+        self.assertIn("if tag < 18 {", text)
+        self.assertIn("requires not_23 { tag ≢ 23 }", text)
+        self.assertNotIn("requires not_22 ", text)  # the tag of `Z`
+
+    def test_the_type_of_a_value_with_arguments_is_not_named(self):
+        declared = ", ".join(["W(T)"] + [f"V{i}(u8)" for i in range(MOST_IN_BODY)] + ["U", "X"])
+        self.file = self.put(f"pub enum E<T> {{ {declared} }}\npub type A = E<u8>;")
+        self.assertEqual(self.run_command(self.file), (0, ""))
+        for place in ("AArchive/resolve", f"ArchivedA/serialize_from_{MOST_IN_GROUP}", "ArchivedA/resolve_without_fields", "ArchivedA/serialize_without_fields"):
+            proof = self.text(self.file.replace("src/types.rt", f"proofs/types/{place}/Answers.antt"))
+            self.assertIn("declared.types.E.TheVariants.{", proof)
+            self.assertNotIn("declared.types.A.", proof)
