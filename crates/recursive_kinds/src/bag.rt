@@ -350,7 +350,7 @@ fn serialize_each_bag<S: Sharing + Writer + ResolverAlloc>(
             Ok(resolver) => resolver,
             Err(error) => return Err(handed_on(error)),
         };
-        resolvers.push(resolver).map_err(AllocError::from)?;
+        resolvers.push_reserved(resolver);
     }
     Ok(resolvers)
 }
@@ -397,7 +397,7 @@ fn serialize_shared_slice_bag<S: Sharing + Writer + ResolverAlloc>(
 
 // Writes what a value owns, part by part.
 #[cycle(serialize_bag)]
-fn serialize_bag<S: Sharing + Writer + ResolverAlloc>(
+fn serialize_whole_bag<S: Sharing + Writer + ResolverAlloc>(
     value: &Bag,
     serializer: &mut S,
 ) -> Result<BagResolver, Error>
@@ -413,9 +413,28 @@ fn serialize_bag<S: Sharing + Writer + ResolverAlloc>(
     let items = value.inside.value.as_slice();
     let a0 = match serialize_shared_slice_bag(value.inside.key, items, serializer) {
         Ok(a0) => a0,
-        Err(error) => return Err(error),
+        Err(error) => return Err(handed_on(error)),
     };
     Ok(BagResolver { kept: (a0, ()) })
+}
+
+// The same by a call, whose result has its room only while it lasts.
+#[cycle(serialize_bag)]
+#[inline(always)]
+fn serialize_bag<S: Sharing + Writer + ResolverAlloc>(
+    value: &Bag,
+    serializer: &mut S,
+) -> Result<BagResolver, Error>
+    ensures serialized { IfOk result (λ r. Serialized bag_definitions bag_shape
+        (⟦<Bag as Archive>⟧.keys value.now) (⟦<Bag as Archive>⟧.meaning value.now)
+        (⟦<Bag as Archive>⟧.flat value.now r) (S.state serializer.old) (S.state serializer.new)) }
+    ensures same_value { IfOk result (λ r. ⟦<Bag as Archive>⟧.belongs value.now r) }
+    ensures goes_on { GoesOn (S.state serializer.old) (S.state serializer.new) }
+    ensures refused { IfErr result (IsRefused bag_definitions bag_shape
+        (⟦<Bag as Archive>⟧.keys value.now) (⟦<Bag as Archive>⟧.meaning value.now)
+        (S.state serializer.old) (S.state serializer.new)) }
+{
+    serialize_whole_bag(value, serializer)
 }
 
 impl<S: Sharing + Writer + ResolverAlloc> Serialize<S> for Bag {

@@ -93,20 +93,20 @@ serialize_road_detour-returns-in-Err-clause-refused g t c = (variant_refused roa
 pub serialize_road_detour-returns-clause-serialized : goal.serialize_road_detour-returns-clause-serialized
 serialize_road_detour-returns-clause-serialized g t c = (serialized_variant road_definitions road_shape road_name road_variant_definitions road_variants road_has_variants 1 road_detour_parts refl road_detour_definitions refl _ _ _ _ _ (serialized_part road_definitions no_definition (shared rc_flavor (one road_shape)) no_part (rc_keys c.args.a0.now.key (one road_shape) 0 (road_meaning c.args.a0.now.value.value) (road_keys c.args.a0.now.value.value)) [] (shared_value c.args.a0.now.key) no_value _ _ _ _ _ c.in-Ok.ensures.serialized (serialized_no_part no_definition _)))
 
-pub serialize_road-returns-in-Ok-clause-serialized : goal.serialize_road-returns-in-Ok-clause-serialized
-serialize_road-returns-in-Ok-clause-serialized g t c = rw c.in-Way.is (written_as (road_way_has_keys c.in-Way.a0 c.in-Way.a1) (road_way_means c.in-Way.a0 c.in-Way.a1) (rw (road_way_opens c.in-Way.a0 c.in-Way.a1) refl) c.in-Ok.ensures.serialized)
+pub serialize_whole_road-returns-in-Ok-clause-serialized : goal.serialize_whole_road-returns-in-Ok-clause-serialized
+serialize_whole_road-returns-in-Ok-clause-serialized g t c = rw c.in-Way.is (written_as (road_way_has_keys c.in-Way.a0 c.in-Way.a1) (road_way_means c.in-Way.a0 c.in-Way.a1) (rw (road_way_opens c.in-Way.a0 c.in-Way.a1) refl) c.in-Ok.ensures.serialized)
 
-pub serialize_road-returns-in-Ok-clause-same_value : goal.serialize_road-returns-in-Ok-clause-same_value
-serialize_road-returns-in-Ok-clause-same_value g t c = rw (c.in-Way.is, road_way_opens c.in-Way.a0 c.in-Way.a1) c.in-Ok.ensures.same_values
+pub serialize_whole_road-returns-in-Ok-clause-same_value : goal.serialize_whole_road-returns-in-Ok-clause-same_value
+serialize_whole_road-returns-in-Ok-clause-same_value g t c = rw (c.in-Way.is, road_way_opens c.in-Way.a0 c.in-Way.a1) c.in-Ok.ensures.same_values
 
-pub serialize_road-returns-in-Err-clause-refused : goal.serialize_road-returns-in-Err-clause-refused
-serialize_road-returns-in-Err-clause-refused g t c = rw c.in-Way.is (refused_as (road_way_has_keys c.in-Way.a0 c.in-Way.a1) (road_way_means c.in-Way.a0 c.in-Way.a1) c.in-Err.ensures.refused)
+pub serialize_whole_road-returns-in-Err-clause-refused : goal.serialize_whole_road-returns-in-Err-clause-refused
+serialize_whole_road-returns-in-Err-clause-refused g t c = rw c.in-Way.is (refused_as (road_way_has_keys c.in-Way.a0 c.in-Way.a1) (road_way_means c.in-Way.a0 c.in-Way.a1) c.in-Err.ensures.refused)
 
-pub serialize_road-returns-in-Ok-serialize_road_detour-clause-serialized : goal.serialize_road-returns-in-Ok-serialize_road_detour-clause-serialized
-serialize_road-returns-in-Ok-serialize_road_detour-clause-serialized g t c = rw c.in-Detour.is (written_as (road_detour_has_keys c.in-Detour.a0) (road_detour_means c.in-Detour.a0) (rw (road_detour_opens c.in-Detour.a0) refl) c.in-Ok-serialize_road_detour.ensures.serialized)
+pub serialize_whole_road-returns-in-Ok-serialize_road_detour-clause-serialized : goal.serialize_whole_road-returns-in-Ok-serialize_road_detour-clause-serialized
+serialize_whole_road-returns-in-Ok-serialize_road_detour-clause-serialized g t c = rw c.in-Detour.is (written_as (road_detour_has_keys c.in-Detour.a0) (road_detour_means c.in-Detour.a0) (rw (road_detour_opens c.in-Detour.a0) refl) c.in-Ok-serialize_road_detour.ensures.serialized)
 
-pub serialize_road-returns-in-Ok-serialize_road_detour-clause-same_value : goal.serialize_road-returns-in-Ok-serialize_road_detour-clause-same_value
-serialize_road-returns-in-Ok-serialize_road_detour-clause-same_value g t c = rw (c.in-Detour.is, road_detour_opens c.in-Detour.a0) c.in-Ok-serialize_road_detour.ensures.same_values
+pub serialize_whole_road-returns-in-Ok-serialize_road_detour-clause-same_value : goal.serialize_whole_road-returns-in-Ok-serialize_road_detour-clause-same_value
+serialize_whole_road-returns-in-Ok-serialize_road_detour-clause-same_value g t c = rw (c.in-Detour.is, road_detour_opens c.in-Detour.a0) c.in-Ok-serialize_road_detour.ensures.same_values
 
-pub serialize_road-returns-in-Err-serialize_road_detour-clause-refused : goal.serialize_road-returns-in-Err-serialize_road_detour-clause-refused
-serialize_road-returns-in-Err-serialize_road_detour-clause-refused g t c = rw c.in-Detour.is (refused_as (road_detour_has_keys c.in-Detour.a0) (road_detour_means c.in-Detour.a0) c.in-Err-serialize_road_detour.ensures.refused)
+pub serialize_whole_road-returns-in-Err-serialize_road_detour-clause-refused : goal.serialize_whole_road-returns-in-Err-serialize_road_detour-clause-refused
+serialize_whole_road-returns-in-Err-serialize_road_detour-clause-refused g t c = rw c.in-Detour.is (refused_as (road_detour_has_keys c.in-Detour.a0) (road_detour_means c.in-Detour.a0) c.in-Err-serialize_road_detour.ensures.refused)
