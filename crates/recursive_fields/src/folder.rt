@@ -335,7 +335,7 @@ fn serialize_map_string_folder<S: Writer + Keys + ResolverAlloc>(
 
 // Writes what a value owns, part by part.
 #[cycle(serialize_folder)]
-fn serialize_folder<S: Writer + Keys + ResolverAlloc>(
+fn serialize_whole_folder<S: Writer + Keys + ResolverAlloc>(
     value: &Folder,
     serializer: &mut S,
 ) -> Result<FolderResolver, Error>
@@ -355,11 +355,31 @@ fn serialize_folder<S: Writer + Keys + ResolverAlloc>(
     };
     let a1 = match serialize_map_string_folder(&value.entries, serializer) {
         Ok(a1) => a1,
-        Err(error) => return Err(error),
+        Err(error) => return Err(handed_on(error)),
     };
     Ok(FolderResolver {
         kept: (a0, (a1, ())),
     })
+}
+
+// The same by a call, whose result has its room only while it lasts.
+#[cycle(serialize_folder)]
+#[inline(always)]
+fn serialize_folder<S: Writer + Keys + ResolverAlloc>(
+    value: &Folder,
+    serializer: &mut S,
+) -> Result<FolderResolver, Error>
+    ensures serialized { IfOk result (λ r. Serialized folder_definitions folder_shape
+        (⟦<Folder as Archive>⟧.keys value.now) (⟦<Folder as Archive>⟧.meaning value.now)
+        (⟦<Folder as Archive>⟧.flat value.now r) (S.state serializer.old)
+        (S.state serializer.new)) }
+    ensures same_value { IfOk result (λ r. ⟦<Folder as Archive>⟧.belongs value.now r) }
+    ensures goes_on { GoesOn (S.state serializer.old) (S.state serializer.new) }
+    ensures refused { IfErr result (IsRefused folder_definitions folder_shape
+        (⟦<Folder as Archive>⟧.keys value.now) (⟦<Folder as Archive>⟧.meaning value.now)
+        (S.state serializer.old) (S.state serializer.new)) }
+{
+    serialize_whole_folder(value, serializer)
 }
 
 impl<S: Writer + Keys + ResolverAlloc> Serialize<S> for Folder {

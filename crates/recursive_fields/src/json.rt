@@ -57,6 +57,7 @@ ghost use Rattle.archive_core.specs.Definitions.{ExplainsConflict, Extended, bot
 ghost use Rattle.archive_core.specs.Expressed.{ExpressesParts, ExpressesVariants};
 ghost use Rattle.archive_core.specs.Expressions.{table_of};
 ghost use Rattle.archive_core.specs.Fields.{field_in};
+ghost use Rattle.archive_core.specs.Held.{InnerListed, ListingRefused};
 ghost use Rattle.archive_core.specs.Keyed.{nothing_keyed, number_keyed, part_keyed, record_keyed};
 ghost use Rattle.archive_core.specs.LeafLayout.{no_definition_reached};
 ghost use Rattle.archive_core.specs.PartsPlanned.{no_part_planned, part_planned};
@@ -106,7 +107,7 @@ use archive_core::traits::{
 use archive_core::validation::ArchiveContext;
 use archive_core::vec::{ArchivedVec, VecResolver};
 use archive_core::view::{RawView, Ref};
-use std::alloc::{AllocError, Global};
+use std::alloc::{AllocError, Allocator, Global};
 
 /// An archived `Json`: 16 bytes at a multiple of 8. It is validated by its schema.
 pub struct ArchivedJson;
@@ -349,6 +350,26 @@ impl Archive for Json {
     }
 }
 
+// Writes the region of elements, by a call where there are some, whose result has its room only while it lasts.
+#[inline(always)]
+fn serialize_run_of_json<S: Writer + ResolverAlloc, T: Archive, B: Allocator + Drop>(
+    values: &[T],
+    resolvers: Vec<T::Resolver, B>,
+    serializer: &mut S,
+) -> Result<VecResolver, Error>
+    requires same_values { EachBelongs T.belongs values.now resolvers.items }
+    ensures listed { IfOk result (InnerListed T.Archive T.Archived.Portable values.now
+        resolvers.items S.Keys serializer) }
+    ensures goes_on { GoesOn (S.state serializer.old) (S.state serializer.new) }
+    ensures refused { IfErr result (ListingRefused T.Archive T.Archived.Portable values.now
+        resolvers.items S.Keys serializer) }
+{
+    if values.is_empty() {
+        return serialize_inner_slice(values, resolvers, serializer);
+    }
+    serialize_inner_slice(values, resolvers, serializer)
+}
+
 // Writes what each of the values owns, in order.
 #[cycle(serialize_json)]
 fn serialize_each_json<S: Writer + Keys + ResolverAlloc>(
@@ -375,7 +396,7 @@ fn serialize_each_json<S: Writer + Keys + ResolverAlloc>(
             Ok(resolver) => resolver,
             Err(error) => return Err(handed_on(error)),
         };
-        resolvers.push(resolver).map_err(AllocError::from)?;
+        resolvers.push_reserved(resolver);
     }
     Ok(resolvers)
 }
@@ -404,7 +425,7 @@ fn serialize_vec_json<S: Writer + Keys + ResolverAlloc>(
         Ok(kept) => kept,
         Err(error) => return Err(error),
     };
-    match serialize_inner_slice(items, kept, serializer) {
+    match serialize_run_of_json(items, kept, serializer) {
         Ok(at) => Ok(at),
         Err(error) => Err(error),
     }
@@ -436,7 +457,7 @@ fn serialize_each_member_type<S: Writer + Keys + ResolverAlloc>(
             Ok(resolver) => resolver,
             Err(error) => return Err(handed_on(error)),
         };
-        resolvers.push(resolver).map_err(AllocError::from)?;
+        resolvers.push_reserved(resolver);
     }
     Ok(resolvers)
 }
@@ -465,7 +486,7 @@ fn serialize_vec_member_type<S: Writer + Keys + ResolverAlloc>(
         Ok(kept) => kept,
         Err(error) => return Err(error),
     };
-    match serialize_inner_slice(items, kept, serializer) {
+    match serialize_run_of_json(items, kept, serializer) {
         Ok(at) => Ok(at),
         Err(error) => Err(error),
     }
@@ -573,7 +594,7 @@ fn serialize_json_object<S: Writer + Keys + ResolverAlloc>(
 
 // Writes what a value owns.
 #[cycle(serialize_json)]
-fn serialize_json<S: Writer + Keys + ResolverAlloc>(
+fn serialize_whole_json<S: Writer + Keys + ResolverAlloc>(
     value: &Json,
     serializer: &mut S,
 ) -> Result<JsonResolver, Error>
@@ -605,6 +626,25 @@ fn serialize_json<S: Writer + Keys + ResolverAlloc>(
             Err(error) => Err(error),
         },
     }
+}
+
+// The same by a call, whose result has its room only while it lasts.
+#[cycle(serialize_json)]
+#[inline(always)]
+fn serialize_json<S: Writer + Keys + ResolverAlloc>(
+    value: &Json,
+    serializer: &mut S,
+) -> Result<JsonResolver, Error>
+    ensures serialized { IfOk result (λ r. Serialized json_definitions json_shape
+        (⟦<Json as Archive>⟧.keys value.now) (⟦<Json as Archive>⟧.meaning value.now)
+        (⟦<Json as Archive>⟧.flat value.now r) (S.state serializer.old) (S.state serializer.new)) }
+    ensures same_value { IfOk result (λ r. ⟦<Json as Archive>⟧.belongs value.now r) }
+    ensures goes_on { GoesOn (S.state serializer.old) (S.state serializer.new) }
+    ensures refused { IfErr result (IsRefused json_definitions json_shape
+        (⟦<Json as Archive>⟧.keys value.now) (⟦<Json as Archive>⟧.meaning value.now)
+        (S.state serializer.old) (S.state serializer.new)) }
+{
+    serialize_whole_json(value, serializer)
 }
 
 impl<S: Writer + Keys + ResolverAlloc> Serialize<S> for Json {
@@ -1176,7 +1216,7 @@ impl Archive for Member {
 
 // Writes what a value owns, part by part.
 #[cycle(serialize_json)]
-fn serialize_member_type<S: Writer + Keys + ResolverAlloc>(
+fn serialize_whole_member_type<S: Writer + Keys + ResolverAlloc>(
     value: &Member,
     serializer: &mut S,
 ) -> Result<MemberResolver, Error>
@@ -1196,11 +1236,31 @@ fn serialize_member_type<S: Writer + Keys + ResolverAlloc>(
     };
     let a1 = match serialize_json(&value.value, serializer) {
         Ok(a1) => a1,
-        Err(error) => return Err(error),
+        Err(error) => return Err(handed_on(error)),
     };
     Ok(MemberResolver {
         kept: (a0, (a1, ())),
     })
+}
+
+// The same by a call, whose result has its room only while it lasts.
+#[cycle(serialize_json)]
+#[inline(always)]
+fn serialize_member_type<S: Writer + Keys + ResolverAlloc>(
+    value: &Member,
+    serializer: &mut S,
+) -> Result<MemberResolver, Error>
+    ensures serialized { IfOk result (λ r. Serialized member_type_definitions member_type_shape
+        (⟦<Member as Archive>⟧.keys value.now) (⟦<Member as Archive>⟧.meaning value.now)
+        (⟦<Member as Archive>⟧.flat value.now r) (S.state serializer.old)
+        (S.state serializer.new)) }
+    ensures same_value { IfOk result (λ r. ⟦<Member as Archive>⟧.belongs value.now r) }
+    ensures goes_on { GoesOn (S.state serializer.old) (S.state serializer.new) }
+    ensures refused { IfErr result (IsRefused member_type_definitions member_type_shape
+        (⟦<Member as Archive>⟧.keys value.now) (⟦<Member as Archive>⟧.meaning value.now)
+        (S.state serializer.old) (S.state serializer.new)) }
+{
+    serialize_whole_member_type(value, serializer)
 }
 
 impl<S: Writer + Keys + ResolverAlloc> Serialize<S> for Member {

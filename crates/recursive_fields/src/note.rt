@@ -19,6 +19,7 @@ ghost use Rattle.archive_core.specs.CallOutcomes.{ResolvesAs};
 ghost use Rattle.archive_core.specs.Causes.{IsRefused};
 ghost use Rattle.archive_core.specs.Definitions.{both, no_definition};
 ghost use Rattle.archive_core.specs.Expressed.{ExpressesParts, ExpressesVariants};
+ghost use Rattle.archive_core.specs.Held.{InnerListed, ListingRefused};
 ghost use Rattle.archive_core.specs.Payloads.{payload_in};
 ghost use Rattle.archive_core.specs.PlannedOwners.{one_planned};
 ghost use Rattle.archive_core.specs.Plans.{Serialized};
@@ -59,7 +60,7 @@ use archive_core::traits::{
 };
 use archive_core::vec::{ArchivedVec, VecResolver};
 use archive_core::view::{RawView, Ref};
-use std::alloc::{AllocError, Global};
+use std::alloc::{AllocError, Allocator, Global};
 
 /// An archived `Note`: 12 bytes at a multiple of 4. It is validated by its schema.
 pub struct ArchivedNote;
@@ -344,6 +345,26 @@ impl Archive for Note {
     }
 }
 
+// Writes the region of elements, by a call where there are some, whose result has its room only while it lasts.
+#[inline(always)]
+fn serialize_run_of_note<S: Writer + ResolverAlloc, T: Archive, B: Allocator + Drop>(
+    values: &[T],
+    resolvers: Vec<T::Resolver, B>,
+    serializer: &mut S,
+) -> Result<VecResolver, Error>
+    requires same_values { EachBelongs T.belongs values.now resolvers.items }
+    ensures listed { IfOk result (InnerListed T.Archive T.Archived.Portable values.now
+        resolvers.items S.Keys serializer) }
+    ensures goes_on { GoesOn (S.state serializer.old) (S.state serializer.new) }
+    ensures refused { IfErr result (ListingRefused T.Archive T.Archived.Portable values.now
+        resolvers.items S.Keys serializer) }
+{
+    if values.is_empty() {
+        return serialize_inner_slice(values, resolvers, serializer);
+    }
+    serialize_inner_slice(values, resolvers, serializer)
+}
+
 // Writes what each of the values owns, in order.
 #[cycle(serialize_note)]
 fn serialize_each_tuple3_string_note_option_string<S: Writer + Keys + ResolverAlloc>(
@@ -380,9 +401,7 @@ fn serialize_each_tuple3_string_note_option_string<S: Writer + Keys + ResolverAl
             Ok(a2) => a2,
             Err(error) => return Err(error),
         };
-        resolvers
-            .push((a0, (a1, (a2, ()))))
-            .map_err(AllocError::from)?;
+        resolvers.push_reserved((a0, (a1, (a2, ()))));
     }
     Ok(resolvers)
 }
@@ -416,7 +435,7 @@ fn serialize_vec_tuple3_string_note_option_string<S: Writer + Keys + ResolverAll
         Ok(kept) => kept,
         Err(error) => return Err(error),
     };
-    match serialize_inner_slice(items, kept, serializer) {
+    match serialize_run_of_note(items, kept, serializer) {
         Ok(at) => Ok(at),
         Err(error) => Err(error),
     }
@@ -499,7 +518,7 @@ fn serialize_note_table<S: Writer + Keys + ResolverAlloc>(
 
 // Writes what a value owns.
 #[cycle(serialize_note)]
-fn serialize_note<S: Writer + Keys + ResolverAlloc>(
+fn serialize_whole_note<S: Writer + Keys + ResolverAlloc>(
     value: &Note,
     serializer: &mut S,
 ) -> Result<NoteResolver, Error>
@@ -526,6 +545,25 @@ fn serialize_note<S: Writer + Keys + ResolverAlloc>(
             Err(error) => Err(error),
         },
     }
+}
+
+// The same by a call, whose result has its room only while it lasts.
+#[cycle(serialize_note)]
+#[inline(always)]
+fn serialize_note<S: Writer + Keys + ResolverAlloc>(
+    value: &Note,
+    serializer: &mut S,
+) -> Result<NoteResolver, Error>
+    ensures serialized { IfOk result (λ r. Serialized note_definitions note_shape
+        (⟦<Note as Archive>⟧.keys value.now) (⟦<Note as Archive>⟧.meaning value.now)
+        (⟦<Note as Archive>⟧.flat value.now r) (S.state serializer.old) (S.state serializer.new)) }
+    ensures same_value { IfOk result (λ r. ⟦<Note as Archive>⟧.belongs value.now r) }
+    ensures goes_on { GoesOn (S.state serializer.old) (S.state serializer.new) }
+    ensures refused { IfErr result (IsRefused note_definitions note_shape
+        (⟦<Note as Archive>⟧.keys value.now) (⟦<Note as Archive>⟧.meaning value.now)
+        (S.state serializer.old) (S.state serializer.new)) }
+{
+    serialize_whole_note(value, serializer)
 }
 
 impl<S: Writer + Keys + ResolverAlloc> Serialize<S> for Note {

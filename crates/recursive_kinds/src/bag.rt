@@ -34,6 +34,7 @@ ghost use Rattle.archive_core.specs.Seen.{IsPartOf, ReadsPart, RefusesPart, Show
 ghost use Rattle.archive_core.specs.SelfCheck.Laws.{by_schema};
 ghost use Rattle.archive_core.specs.Shape.{boxed, one, part, parts, run, shared};
 ghost use Rattle.archive_core.specs.SharedSources.{rc_flat, rc_flavor, rc_keys};
+ghost use Rattle.archive_core.specs.SourceOutcomes.{BoxesInner};
 ghost use Rattle.archive_core.specs.Value.{list, shared_value, value};
 ghost use Rattle.archive_core.specs.Viewed.{Viewed};
 ghost use Rattle.archive_core.specs.Writing.{ZeroedPlace};
@@ -348,8 +349,22 @@ impl Archive for Bag {
     }
 }
 
+// Writes the region of a value by a call, whose result has its room only while it lasts.
+#[inline(always)]
+fn serialize_region_of_bag<S: Writer + ResolverAlloc, T: Archive>(
+    value: &T,
+    resolver: T::Resolver,
+    serializer: &mut S,
+) -> Result<BoxResolver, Error>
+    requires same_value { T.belongs value.now resolver }
+    ensures { BoxesInner T.Archive T.Archived.Portable value.now resolver S.Keys serializer result }
+{
+    serialize_inner(value, resolver, serializer)
+}
+
 // Writes what an option owns.
 #[cycle(serialize_bag)]
+#[inline(always)]
 fn serialize_option_box_bag<S: Sharing + Writer + ResolverAlloc>(
     value: &Option<Box<Bag>>,
     serializer: &mut S,
@@ -373,7 +388,7 @@ fn serialize_option_box_bag<S: Sharing + Writer + ResolverAlloc>(
                 Ok(kept) => kept,
                 Err(error) => return Err(handed_on(error)),
             };
-            match serialize_inner(inner, kept, serializer) {
+            match serialize_region_of_bag(inner, kept, serializer) {
                 Ok(at) => Ok(Some(at)),
                 Err(error) => Err(error),
             }
@@ -406,7 +421,7 @@ fn serialize_each_bag<S: Sharing + Writer + ResolverAlloc>(
             Ok(resolver) => resolver,
             Err(error) => return Err(handed_on(error)),
         };
-        resolvers.push(resolver).map_err(AllocError::from)?;
+        resolvers.push_reserved(resolver);
     }
     Ok(resolvers)
 }
@@ -453,7 +468,7 @@ fn serialize_shared_slice_bag<S: Sharing + Writer + ResolverAlloc>(
 
 // Writes what a value owns, part by part.
 #[cycle(serialize_bag)]
-fn serialize_bag<S: Sharing + Writer + ResolverAlloc>(
+fn serialize_whole_bag<S: Sharing + Writer + ResolverAlloc>(
     value: &Bag,
     serializer: &mut S,
 ) -> Result<BagResolver, Error>
@@ -468,7 +483,7 @@ fn serialize_bag<S: Sharing + Writer + ResolverAlloc>(
 {
     let a0 = match serialize_option_box_bag(&value.top, serializer) {
         Ok(a0) => a0,
-        Err(error) => return Err(error),
+        Err(error) => return Err(handed_on(error)),
     };
     let items = value.inside.value.as_slice();
     let a1 = match serialize_shared_slice_bag(value.inside.key, items, serializer) {
@@ -478,6 +493,25 @@ fn serialize_bag<S: Sharing + Writer + ResolverAlloc>(
     Ok(BagResolver {
         kept: (a0, (a1, ())),
     })
+}
+
+// The same by a call, whose result has its room only while it lasts.
+#[cycle(serialize_bag)]
+#[inline(always)]
+fn serialize_bag<S: Sharing + Writer + ResolverAlloc>(
+    value: &Bag,
+    serializer: &mut S,
+) -> Result<BagResolver, Error>
+    ensures serialized { IfOk result (λ r. Serialized bag_definitions bag_shape
+        (⟦<Bag as Archive>⟧.keys value.now) (⟦<Bag as Archive>⟧.meaning value.now)
+        (⟦<Bag as Archive>⟧.flat value.now r) (S.state serializer.old) (S.state serializer.new)) }
+    ensures same_value { IfOk result (λ r. ⟦<Bag as Archive>⟧.belongs value.now r) }
+    ensures goes_on { GoesOn (S.state serializer.old) (S.state serializer.new) }
+    ensures refused { IfErr result (IsRefused bag_definitions bag_shape
+        (⟦<Bag as Archive>⟧.keys value.now) (⟦<Bag as Archive>⟧.meaning value.now)
+        (S.state serializer.old) (S.state serializer.new)) }
+{
+    serialize_whole_bag(value, serializer)
 }
 
 impl<S: Sharing + Writer + ResolverAlloc> Serialize<S> for Bag {

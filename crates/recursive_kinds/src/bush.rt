@@ -19,6 +19,7 @@ ghost use Rattle.archive_core.specs.Choices.{option_shape};
 ghost use Rattle.archive_core.specs.Definitions.{no_definition};
 ghost use Rattle.archive_core.specs.Expressed.{ExpressesParts};
 ghost use Rattle.archive_core.specs.Fields.{field_in};
+ghost use Rattle.archive_core.specs.Held.{InnerListed, ListingRefused};
 ghost use Rattle.archive_core.specs.PlannedOwners.{one_planned};
 ghost use Rattle.archive_core.specs.Plans.{Serialized};
 ghost use Rattle.archive_core.specs.ReadBack.{Read, ReadsAs};
@@ -27,6 +28,7 @@ ghost use Rattle.archive_core.specs.SealOutcomes.{IsSealOf, SealsPart};
 ghost use Rattle.archive_core.specs.Seen.{IsPartOf, RefusesPart, ShowsValueOf};
 ghost use Rattle.archive_core.specs.SelfCheck.Laws.{by_schema};
 ghost use Rattle.archive_core.specs.Shape.{boxed, one, part, parts, vec};
+ghost use Rattle.archive_core.specs.SourceOutcomes.{BoxesInner};
 ghost use Rattle.archive_core.specs.Value.{value};
 ghost use Rattle.archive_core.specs.Writing.{ZeroedPlace};
 ghost use Rattle.archive_core.specs.Written.{GoesOn};
@@ -34,7 +36,7 @@ ghost use Rattle.recursive_kinds.specs.BushShape.{bush_definitions, bush_has_lay
 ghost use Rattle.std.proofs.Common.{lit≤};
 ghost use Rattle.std.specs.Prelude.{IfErr, IfOk, None, Some, length, refl, ◌+◌, ◌≡◌, ◌≤◌};
 
-use archive_core::boxed::ArchivedBox;
+use archive_core::boxed::{ArchivedBox, BoxResolver};
 use archive_core::error::Error;
 use archive_core::option::ArchivedOption;
 use archive_core::place::Place;
@@ -55,7 +57,7 @@ use archive_core::traits::{
 };
 use archive_core::vec::{ArchivedVec, VecResolver};
 use archive_core::view::{RawView, Ref};
-use std::alloc::{AllocError, Global};
+use std::alloc::{AllocError, Allocator, Global};
 
 /// An archived `Bush`: 20 bytes at a multiple of 4. It is validated by its schema.
 pub struct ArchivedBush;
@@ -214,6 +216,39 @@ impl Archive for Bush {
     }
 }
 
+// Writes the region of elements, by a call where there are some, whose result has its room only while it lasts.
+#[inline(always)]
+fn serialize_run_of_bush<S: Writer + ResolverAlloc, T: Archive, B: Allocator + Drop>(
+    values: &[T],
+    resolvers: Vec<T::Resolver, B>,
+    serializer: &mut S,
+) -> Result<VecResolver, Error>
+    requires same_values { EachBelongs T.belongs values.now resolvers.items }
+    ensures listed { IfOk result (InnerListed T.Archive T.Archived.Portable values.now
+        resolvers.items S.Keys serializer) }
+    ensures goes_on { GoesOn (S.state serializer.old) (S.state serializer.new) }
+    ensures refused { IfErr result (ListingRefused T.Archive T.Archived.Portable values.now
+        resolvers.items S.Keys serializer) }
+{
+    if values.is_empty() {
+        return serialize_inner_slice(values, resolvers, serializer);
+    }
+    serialize_inner_slice(values, resolvers, serializer)
+}
+
+// Writes the region of a value by a call, whose result has its room only while it lasts.
+#[inline(always)]
+fn serialize_region_of_bush<S: Writer + ResolverAlloc, T: Archive>(
+    value: &T,
+    resolver: T::Resolver,
+    serializer: &mut S,
+) -> Result<BoxResolver, Error>
+    requires same_value { T.belongs value.now resolver }
+    ensures { BoxesInner T.Archive T.Archived.Portable value.now resolver S.Keys serializer result }
+{
+    serialize_inner(value, resolver, serializer)
+}
+
 // Writes what each of the values owns, in order.
 #[cycle(serialize_bush)]
 fn serialize_each_option_box_bush<S: Writer + Keys + ResolverAlloc>(
@@ -248,7 +283,7 @@ fn serialize_each_option_box_bush<S: Writer + Keys + ResolverAlloc>(
                     Ok(kept) => kept,
                     Err(error) => return Err(handed_on(error)),
                 };
-                let resolver = match serialize_inner(inner, kept, serializer) {
+                let resolver = match serialize_region_of_bush(inner, kept, serializer) {
                     Ok(resolver) => resolver,
                     Err(error) => return Err(error),
                 };
@@ -286,7 +321,7 @@ fn serialize_vec_option_box_bush<S: Writer + Keys + ResolverAlloc>(
         Ok(kept) => kept,
         Err(error) => return Err(error),
     };
-    match serialize_inner_slice(items, kept, serializer) {
+    match serialize_run_of_bush(items, kept, serializer) {
         Ok(at) => Ok(at),
         Err(error) => Err(error),
     }
@@ -319,11 +354,11 @@ fn serialize_each_box_bush<S: Writer + Keys + ResolverAlloc>(
             Ok(kept) => kept,
             Err(error) => return Err(handed_on(error)),
         };
-        let resolver = match serialize_inner(inner, kept, serializer) {
+        let resolver = match serialize_region_of_bush(inner, kept, serializer) {
             Ok(resolver) => resolver,
             Err(error) => return Err(error),
         };
-        resolvers.push(resolver).map_err(AllocError::from)?;
+        resolvers.push_reserved(resolver);
     }
     Ok(resolvers)
 }
@@ -353,7 +388,7 @@ fn serialize_vec_box_bush<S: Writer + Keys + ResolverAlloc>(
         Ok(kept) => kept,
         Err(error) => return Err(error),
     };
-    match serialize_inner_slice(items, kept, serializer) {
+    match serialize_run_of_bush(items, kept, serializer) {
         Ok(at) => Ok(at),
         Err(error) => Err(error),
     }
@@ -361,7 +396,7 @@ fn serialize_vec_box_bush<S: Writer + Keys + ResolverAlloc>(
 
 // Writes what a value owns, part by part.
 #[cycle(serialize_bush)]
-fn serialize_bush<S: Writer + Keys + ResolverAlloc>(
+fn serialize_whole_bush<S: Writer + Keys + ResolverAlloc>(
     value: &Bush,
     serializer: &mut S,
 ) -> Result<BushResolver, Error>
@@ -380,7 +415,7 @@ fn serialize_bush<S: Writer + Keys + ResolverAlloc>(
     };
     let a1 = match serialize_vec_option_box_bush(&value.sides, serializer) {
         Ok(a1) => a1,
-        Err(error) => return Err(error),
+        Err(error) => return Err(handed_on(error)),
     };
     let a2 = match serialize_vec_box_bush(&value.next, serializer) {
         Ok(a2) => a2,
@@ -389,6 +424,25 @@ fn serialize_bush<S: Writer + Keys + ResolverAlloc>(
     Ok(BushResolver {
         kept: (a0, (a1, (a2, ()))),
     })
+}
+
+// The same by a call, whose result has its room only while it lasts.
+#[cycle(serialize_bush)]
+#[inline(always)]
+fn serialize_bush<S: Writer + Keys + ResolverAlloc>(
+    value: &Bush,
+    serializer: &mut S,
+) -> Result<BushResolver, Error>
+    ensures serialized { IfOk result (λ r. Serialized bush_definitions bush_shape
+        (⟦<Bush as Archive>⟧.keys value.now) (⟦<Bush as Archive>⟧.meaning value.now)
+        (⟦<Bush as Archive>⟧.flat value.now r) (S.state serializer.old) (S.state serializer.new)) }
+    ensures same_value { IfOk result (λ r. ⟦<Bush as Archive>⟧.belongs value.now r) }
+    ensures goes_on { GoesOn (S.state serializer.old) (S.state serializer.new) }
+    ensures refused { IfErr result (IsRefused bush_definitions bush_shape
+        (⟦<Bush as Archive>⟧.keys value.now) (⟦<Bush as Archive>⟧.meaning value.now)
+        (S.state serializer.old) (S.state serializer.new)) }
+{
+    serialize_whole_bush(value, serializer)
 }
 
 impl<S: Writer + Keys + ResolverAlloc> Serialize<S> for Bush {

@@ -19,6 +19,7 @@ ghost use Rattle.archive_core.specs.Definitions.{no_definition};
 ghost use Rattle.archive_core.specs.Error.TheVariants.{OutOfMemory};
 ghost use Rattle.archive_core.specs.Expressed.{ExpressesParts};
 ghost use Rattle.archive_core.specs.Fields.{field_in};
+ghost use Rattle.archive_core.specs.Held.{InnerListed, ListingRefused};
 ghost use Rattle.archive_core.specs.PlannedOwners.{one_planned};
 ghost use Rattle.archive_core.specs.Plans.{Serialized};
 ghost use Rattle.archive_core.specs.ReadBack.{Read, ReadsAs};
@@ -42,9 +43,9 @@ use archive_core::primitive::ArchivedU32;
 use archive_core::rc::{ArchivedRc, RcFlavor};
 use archive_core::recursive::{
     VecAt, before_vec, begin_reading, begin_shared, define_record, expression_of, finish_reading,
-    finish_shared, first_expression, named_expression, no_expressions, part_behind, part_of_record,
-    read_part, resolve_named_record_2, seal_of_field, serialize_inner_slice, serialize_part,
-    shared_expression, vec_expression, view_of_field,
+    finish_shared, first_expression, handed_on, named_expression, no_expressions, part_behind,
+    part_of_record, read_part, resolve_named_record_2, seal_of_field, serialize_inner_slice,
+    serialize_part, shared_expression, vec_expression, view_of_field,
 };
 use archive_core::seal::Seal;
 use archive_core::self_check::BySchema;
@@ -57,7 +58,7 @@ use archive_core::traits::{
 };
 use archive_core::vec::{ArchivedVec, VecResolver};
 use archive_core::view::{RawView, Ref};
-use std::alloc::{AllocError, Global};
+use std::alloc::{AllocError, Allocator, Global};
 
 /// An archived `Knot`: 12 bytes at a multiple of 4. It is validated by its schema.
 pub struct ArchivedKnot;
@@ -202,6 +203,26 @@ impl Archive for Knot {
     }
 }
 
+// Writes the region of elements, by a call where there are some, whose result has its room only while it lasts.
+#[inline(always)]
+fn serialize_run_of_knot<S: Writer + ResolverAlloc, T: Archive, B: Allocator + Drop>(
+    values: &[T],
+    resolvers: Vec<T::Resolver, B>,
+    serializer: &mut S,
+) -> Result<VecResolver, Error>
+    requires same_values { EachBelongs T.belongs values.now resolvers.items }
+    ensures listed { IfOk result (InnerListed T.Archive T.Archived.Portable values.now
+        resolvers.items S.Keys serializer) }
+    ensures goes_on { GoesOn (S.state serializer.old) (S.state serializer.new) }
+    ensures refused { IfErr result (ListingRefused T.Archive T.Archived.Portable values.now
+        resolvers.items S.Keys serializer) }
+{
+    if values.is_empty() {
+        return serialize_inner_slice(values, resolvers, serializer);
+    }
+    serialize_inner_slice(values, resolvers, serializer)
+}
+
 // Writes what each of the values owns, in order.
 #[cycle(serialize_knot)]
 fn serialize_each_shared_knot<S: Sharing + Writer + ResolverAlloc>(
@@ -277,7 +298,7 @@ fn serialize_vec_shared_knot<S: Sharing + Writer + ResolverAlloc>(
         Ok(kept) => kept,
         Err(error) => return Err(error),
     };
-    match serialize_inner_slice(items, kept, serializer) {
+    match serialize_run_of_knot(items, kept, serializer) {
         Ok(at) => Ok(at),
         Err(error) => Err(error),
     }
@@ -285,7 +306,7 @@ fn serialize_vec_shared_knot<S: Sharing + Writer + ResolverAlloc>(
 
 // Writes what a value owns, part by part.
 #[cycle(serialize_knot)]
-fn serialize_knot<S: Sharing + Writer + ResolverAlloc>(
+fn serialize_whole_knot<S: Sharing + Writer + ResolverAlloc>(
     value: &Knot,
     serializer: &mut S,
 ) -> Result<KnotResolver, Error>
@@ -304,11 +325,30 @@ fn serialize_knot<S: Sharing + Writer + ResolverAlloc>(
     };
     let a1 = match serialize_vec_shared_knot(&value.next, serializer) {
         Ok(a1) => a1,
-        Err(error) => return Err(error),
+        Err(error) => return Err(handed_on(error)),
     };
     Ok(KnotResolver {
         kept: (a0, (a1, ())),
     })
+}
+
+// The same by a call, whose result has its room only while it lasts.
+#[cycle(serialize_knot)]
+#[inline(always)]
+fn serialize_knot<S: Sharing + Writer + ResolverAlloc>(
+    value: &Knot,
+    serializer: &mut S,
+) -> Result<KnotResolver, Error>
+    ensures serialized { IfOk result (λ r. Serialized knot_definitions knot_shape
+        (⟦<Knot as Archive>⟧.keys value.now) (⟦<Knot as Archive>⟧.meaning value.now)
+        (⟦<Knot as Archive>⟧.flat value.now r) (S.state serializer.old) (S.state serializer.new)) }
+    ensures same_value { IfOk result (λ r. ⟦<Knot as Archive>⟧.belongs value.now r) }
+    ensures goes_on { GoesOn (S.state serializer.old) (S.state serializer.new) }
+    ensures refused { IfErr result (IsRefused knot_definitions knot_shape
+        (⟦<Knot as Archive>⟧.keys value.now) (⟦<Knot as Archive>⟧.meaning value.now)
+        (S.state serializer.old) (S.state serializer.new)) }
+{
+    serialize_whole_knot(value, serializer)
 }
 
 impl<S: Sharing + Writer + ResolverAlloc> Serialize<S> for Knot {

@@ -36,6 +36,7 @@ ghost use Rattle.archive_core.specs.Error.TheVariants.{OutOfMemory};
 ghost use Rattle.archive_core.specs.Expressed.{ExpressesParts};
 ghost use Rattle.archive_core.specs.Expressions.{table_of};
 ghost use Rattle.archive_core.specs.Fields.{field_in};
+ghost use Rattle.archive_core.specs.Held.{InnerListed, ListingRefused};
 ghost use Rattle.archive_core.specs.PlannedOwners.{one_planned};
 ghost use Rattle.archive_core.specs.Plans.{Serialized};
 ghost use Rattle.archive_core.specs.Pooled.{Entries as Known};
@@ -65,10 +66,10 @@ use archive_core::primitive::ArchivedU32;
 use archive_core::rc::{ArchivedRc, ArchivedRcWeak, RcFlavor, RcResolver, RcWeakResolver};
 use archive_core::recursive::{
     VecAt, before_vec, begin_reading, begin_shared, define_record, expression_of, finish_reading,
-    finish_shared, first_expression, named_expression, no_expressions, option_expression,
-    part_behind, part_of_record, read_part, resolve_named_record_2, resolve_named_record_3,
-    seal_of_field, serialize_inner_slice, serialize_part, shared_expression, vec_expression,
-    view_of_field, weak_expression,
+    finish_shared, first_expression, handed_on, named_expression, no_expressions,
+    option_expression, part_behind, part_of_record, read_part, resolve_named_record_2,
+    resolve_named_record_3, seal_of_field, serialize_inner_slice, serialize_part,
+    shared_expression, vec_expression, view_of_field, weak_expression,
 };
 use archive_core::seal::Seal;
 use archive_core::self_check::BySchema;
@@ -82,7 +83,7 @@ use archive_core::traits::{
 };
 use archive_core::vec::{ArchivedVec, VecResolver};
 use archive_core::view::{RawView, Ref};
-use std::alloc::{AllocError, Global};
+use std::alloc::{AllocError, Allocator, Global};
 
 /// An archived `Line`: 16 bytes at a multiple of 4. It is validated by its schema.
 pub struct ArchivedLine;
@@ -244,6 +245,26 @@ impl Archive for Line {
     }
 }
 
+// Writes the region of elements, by a call where there are some, whose result has its room only while it lasts.
+#[inline(always)]
+fn serialize_run_of_line<S: Writer + ResolverAlloc, T: Archive, B: Allocator + Drop>(
+    values: &[T],
+    resolvers: Vec<T::Resolver, B>,
+    serializer: &mut S,
+) -> Result<VecResolver, Error>
+    requires same_values { EachBelongs T.belongs values.now resolvers.items }
+    ensures listed { IfOk result (InnerListed T.Archive T.Archived.Portable values.now
+        resolvers.items S.Keys serializer) }
+    ensures goes_on { GoesOn (S.state serializer.old) (S.state serializer.new) }
+    ensures refused { IfErr result (ListingRefused T.Archive T.Archived.Portable values.now
+        resolvers.items S.Keys serializer) }
+{
+    if values.is_empty() {
+        return serialize_inner_slice(values, resolvers, serializer);
+    }
+    serialize_inner_slice(values, resolvers, serializer)
+}
+
 // Writes a value that is shared under this key, if that is unknown.
 #[cycle(serialize_line)]
 fn serialize_keyed_station<S: Sharing + Writer + ResolverAlloc>(
@@ -351,7 +372,7 @@ fn serialize_vec_option_shared_station<S: Sharing + Writer + ResolverAlloc>(
         Ok(kept) => kept,
         Err(error) => return Err(error),
     };
-    match serialize_inner_slice(items, kept, serializer) {
+    match serialize_run_of_line(items, kept, serializer) {
         Ok(at) => Ok(at),
         Err(error) => Err(error),
     }
@@ -359,7 +380,7 @@ fn serialize_vec_option_shared_station<S: Sharing + Writer + ResolverAlloc>(
 
 // Writes what a value owns, part by part.
 #[cycle(serialize_line)]
-fn serialize_line<S: Sharing + Writer + ResolverAlloc>(
+fn serialize_whole_line<S: Sharing + Writer + ResolverAlloc>(
     value: &Line,
     serializer: &mut S,
 ) -> Result<LineResolver, Error>
@@ -378,11 +399,30 @@ fn serialize_line<S: Sharing + Writer + ResolverAlloc>(
     };
     let a1 = match serialize_vec_option_shared_station(&value.stops, serializer) {
         Ok(a1) => a1,
-        Err(error) => return Err(error),
+        Err(error) => return Err(handed_on(error)),
     };
     Ok(LineResolver {
         kept: (a0, (a1, ())),
     })
+}
+
+// The same by a call, whose result has its room only while it lasts.
+#[cycle(serialize_line)]
+#[inline(always)]
+fn serialize_line<S: Sharing + Writer + ResolverAlloc>(
+    value: &Line,
+    serializer: &mut S,
+) -> Result<LineResolver, Error>
+    ensures serialized { IfOk result (λ r. Serialized line_definitions line_shape
+        (⟦<Line as Archive>⟧.keys value.now) (⟦<Line as Archive>⟧.meaning value.now)
+        (⟦<Line as Archive>⟧.flat value.now r) (S.state serializer.old) (S.state serializer.new)) }
+    ensures same_value { IfOk result (λ r. ⟦<Line as Archive>⟧.belongs value.now r) }
+    ensures goes_on { GoesOn (S.state serializer.old) (S.state serializer.new) }
+    ensures refused { IfErr result (IsRefused line_definitions line_shape
+        (⟦<Line as Archive>⟧.keys value.now) (⟦<Line as Archive>⟧.meaning value.now)
+        (S.state serializer.old) (S.state serializer.new)) }
+{
+    serialize_whole_line(value, serializer)
 }
 
 impl<S: Sharing + Writer + ResolverAlloc> Serialize<S> for Line {
@@ -1068,7 +1108,7 @@ fn serialize_vec_weak_shared_station<S: Sharing + Writer + ResolverAlloc>(
         Ok(kept) => kept,
         Err(error) => return Err(error),
     };
-    match serialize_inner_slice(items, kept, serializer) {
+    match serialize_run_of_line(items, kept, serializer) {
         Ok(at) => Ok(at),
         Err(error) => Err(error),
     }
@@ -1076,7 +1116,7 @@ fn serialize_vec_weak_shared_station<S: Sharing + Writer + ResolverAlloc>(
 
 // Writes what a value owns, part by part.
 #[cycle(serialize_line)]
-fn serialize_station<S: Sharing + Writer + ResolverAlloc>(
+fn serialize_whole_station<S: Sharing + Writer + ResolverAlloc>(
     value: &Station,
     serializer: &mut S,
 ) -> Result<StationResolver, Error>
@@ -1096,7 +1136,7 @@ fn serialize_station<S: Sharing + Writer + ResolverAlloc>(
     };
     let a1 = match serialize_weak_shared_line(&value.line, serializer) {
         Ok(a1) => a1,
-        Err(error) => return Err(error),
+        Err(error) => return Err(handed_on(error)),
     };
     let a2 = match serialize_vec_weak_shared_station(&value.before, serializer) {
         Ok(a2) => a2,
@@ -1105,6 +1145,26 @@ fn serialize_station<S: Sharing + Writer + ResolverAlloc>(
     Ok(StationResolver {
         kept: (a0, (a1, (a2, ()))),
     })
+}
+
+// The same by a call, whose result has its room only while it lasts.
+#[cycle(serialize_line)]
+#[inline(always)]
+fn serialize_station<S: Sharing + Writer + ResolverAlloc>(
+    value: &Station,
+    serializer: &mut S,
+) -> Result<StationResolver, Error>
+    ensures serialized { IfOk result (λ r. Serialized station_definitions station_shape
+        (⟦<Station as Archive>⟧.keys value.now) (⟦<Station as Archive>⟧.meaning value.now)
+        (⟦<Station as Archive>⟧.flat value.now r) (S.state serializer.old)
+        (S.state serializer.new)) }
+    ensures same_value { IfOk result (λ r. ⟦<Station as Archive>⟧.belongs value.now r) }
+    ensures goes_on { GoesOn (S.state serializer.old) (S.state serializer.new) }
+    ensures refused { IfErr result (IsRefused station_definitions station_shape
+        (⟦<Station as Archive>⟧.keys value.now) (⟦<Station as Archive>⟧.meaning value.now)
+        (S.state serializer.old) (S.state serializer.new)) }
+{
+    serialize_whole_station(value, serializer)
 }
 
 impl<S: Sharing + Writer + ResolverAlloc> Serialize<S> for Station {

@@ -687,7 +687,7 @@ fn serialize_road_way<S: Sharing + Writer + ResolverAlloc>(
 
 // Writes what a value owns.
 #[cycle(serialize_road)]
-fn serialize_road<S: Sharing + Writer + ResolverAlloc>(
+fn serialize_whole_road<S: Sharing + Writer + ResolverAlloc>(
     value: &Road,
     serializer: &mut S,
 ) -> Result<RoadResolver, Error>
@@ -717,6 +717,25 @@ fn serialize_road<S: Sharing + Writer + ResolverAlloc>(
             Ok(RoadResolver::Detour((a0, (a1, ()))))
         }
     }
+}
+
+// The same by a call, whose result has its room only while it lasts.
+#[cycle(serialize_road)]
+#[inline(always)]
+fn serialize_road<S: Sharing + Writer + ResolverAlloc>(
+    value: &Road,
+    serializer: &mut S,
+) -> Result<RoadResolver, Error>
+    ensures serialized { IfOk result (λ r. Serialized road_definitions road_shape
+        (⟦<Road as Archive>⟧.keys value.now) (⟦<Road as Archive>⟧.meaning value.now)
+        (⟦<Road as Archive>⟧.flat value.now r) (S.state serializer.old) (S.state serializer.new)) }
+    ensures same_value { IfOk result (λ r. ⟦<Road as Archive>⟧.belongs value.now r) }
+    ensures goes_on { GoesOn (S.state serializer.old) (S.state serializer.new) }
+    ensures refused { IfErr result (IsRefused road_definitions road_shape
+        (⟦<Road as Archive>⟧.keys value.now) (⟦<Road as Archive>⟧.meaning value.now)
+        (S.state serializer.old) (S.state serializer.new)) }
+{
+    serialize_whole_road(value, serializer)
 }
 
 impl<S: Sharing + Writer + ResolverAlloc> Serialize<S> for Road {

@@ -392,7 +392,7 @@ fn serialize_each_rule<S: Writer + Keys + ResolverAlloc<Alloc = Global>>(
             Ok(resolver) => resolver,
             Err(error) => return Err(handed_on(error)),
         };
-        resolvers.push(resolver).map_err(AllocError::from)?;
+        resolvers.push_reserved(resolver);
     }
     Ok(resolvers)
 }
@@ -431,7 +431,7 @@ fn serialize_box_slice_rule<S: Writer + Keys + ResolverAlloc<Alloc = Global>>(
 
 // Writes what a value owns, part by part.
 #[cycle(serialize_rule)]
-fn serialize_rule<S: Writer + Keys + ResolverAlloc<Alloc = Global>>(
+fn serialize_whole_rule<S: Writer + Keys + ResolverAlloc<Alloc = Global>>(
     value: &Rule,
     serializer: &mut S,
 ) -> Result<RuleResolver, Error>
@@ -462,11 +462,30 @@ fn serialize_rule<S: Writer + Keys + ResolverAlloc<Alloc = Global>>(
     };
     let a4 = match serialize_box_slice_rule(&value.parts.items, serializer) {
         Ok(a4) => a4,
-        Err(error) => return Err(error),
+        Err(error) => return Err(handed_on(error)),
     };
     Ok(RuleResolver {
         kept: (a0, (a1, (a2, (a3, (a4, ()))))),
     })
+}
+
+// The same by a call, whose result has its room only while it lasts.
+#[cycle(serialize_rule)]
+#[inline(always)]
+fn serialize_rule<S: Writer + Keys + ResolverAlloc<Alloc = Global>>(
+    value: &Rule,
+    serializer: &mut S,
+) -> Result<RuleResolver, Error>
+    ensures serialized { IfOk result (λ r. Serialized rule_definitions rule_shape
+        (⟦<Rule as Archive>⟧.keys value.now) (⟦<Rule as Archive>⟧.meaning value.now)
+        (⟦<Rule as Archive>⟧.flat value.now r) (S.state serializer.old) (S.state serializer.new)) }
+    ensures same_value { IfOk result (λ r. ⟦<Rule as Archive>⟧.belongs value.now r) }
+    ensures goes_on { GoesOn (S.state serializer.old) (S.state serializer.new) }
+    ensures refused { IfErr result (IsRefused rule_definitions rule_shape
+        (⟦<Rule as Archive>⟧.keys value.now) (⟦<Rule as Archive>⟧.meaning value.now)
+        (S.state serializer.old) (S.state serializer.new)) }
+{
+    serialize_whole_rule(value, serializer)
 }
 
 impl<S: Writer + Keys + ResolverAlloc<Alloc = Global>> Serialize<S> for Rule {

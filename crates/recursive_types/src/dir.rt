@@ -37,6 +37,7 @@ ghost use Rattle.archive_core.specs.SealOutcomes.{IsSealOf, SealsPart, seal_tag}
 ghost use Rattle.archive_core.specs.Seen.{IsPartOf, RefusesPart, ShowsValueOf, part_tag, tag_of};
 ghost use Rattle.archive_core.specs.SelfCheck.Laws.{by_schema};
 ghost use Rattle.archive_core.specs.Shape.{boxed, one, part, parts, variant, vec};
+ghost use Rattle.archive_core.specs.SourceOutcomes.{BoxesInner};
 ghost use Rattle.archive_core.specs.Value.{case, no_value, value};
 ghost use Rattle.archive_core.specs.Writing.{ZeroedPlace};
 ghost use Rattle.archive_core.specs.Written.{GoesOn};
@@ -215,6 +216,19 @@ impl Archive for Dir {
     }
 }
 
+// Writes the region of a value by a call, whose result has its room only while it lasts.
+#[inline(always)]
+fn serialize_region_of_dir<S: Writer + ResolverAlloc, T: Archive>(
+    value: &T,
+    resolver: T::Resolver,
+    serializer: &mut S,
+) -> Result<BoxResolver, Error>
+    requires same_value { T.belongs value.now resolver }
+    ensures { BoxesInner T.Archive T.Archived.Portable value.now resolver S.Keys serializer result }
+{
+    serialize_inner(value, resolver, serializer)
+}
+
 // Writes what each of the values owns, in order.
 #[cycle(serialize_dir)]
 fn serialize_each_entry<S: Writer + Keys + ResolverAlloc>(
@@ -241,7 +255,7 @@ fn serialize_each_entry<S: Writer + Keys + ResolverAlloc>(
             Ok(resolver) => resolver,
             Err(error) => return Err(handed_on(error)),
         };
-        resolvers.push(resolver).map_err(AllocError::from)?;
+        resolvers.push_reserved(resolver);
     }
     Ok(resolvers)
 }
@@ -278,7 +292,7 @@ fn serialize_vec_entry<S: Writer + Keys + ResolverAlloc>(
 
 // Writes what a value owns, part by part.
 #[cycle(serialize_dir)]
-fn serialize_dir<S: Writer + Keys + ResolverAlloc>(
+fn serialize_whole_dir<S: Writer + Keys + ResolverAlloc>(
     value: &Dir,
     serializer: &mut S,
 ) -> Result<DirResolver, Error>
@@ -297,11 +311,30 @@ fn serialize_dir<S: Writer + Keys + ResolverAlloc>(
     };
     let a1 = match serialize_vec_entry(&value.entries, serializer) {
         Ok(a1) => a1,
-        Err(error) => return Err(error),
+        Err(error) => return Err(handed_on(error)),
     };
     Ok(DirResolver {
         kept: (a0, (a1, ())),
     })
+}
+
+// The same by a call, whose result has its room only while it lasts.
+#[cycle(serialize_dir)]
+#[inline(always)]
+fn serialize_dir<S: Writer + Keys + ResolverAlloc>(
+    value: &Dir,
+    serializer: &mut S,
+) -> Result<DirResolver, Error>
+    ensures serialized { IfOk result (λ r. Serialized dir_definitions dir_shape
+        (⟦<Dir as Archive>⟧.keys value.now) (⟦<Dir as Archive>⟧.meaning value.now)
+        (⟦<Dir as Archive>⟧.flat value.now r) (S.state serializer.old) (S.state serializer.new)) }
+    ensures same_value { IfOk result (λ r. ⟦<Dir as Archive>⟧.belongs value.now r) }
+    ensures goes_on { GoesOn (S.state serializer.old) (S.state serializer.new) }
+    ensures refused { IfErr result (IsRefused dir_definitions dir_shape
+        (⟦<Dir as Archive>⟧.keys value.now) (⟦<Dir as Archive>⟧.meaning value.now)
+        (S.state serializer.old) (S.state serializer.new)) }
+{
+    serialize_whole_dir(value, serializer)
 }
 
 impl<S: Writer + Keys + ResolverAlloc> Serialize<S> for Dir {
@@ -714,7 +747,7 @@ fn serialize_box_dir<S: Writer + Keys + ResolverAlloc>(
         Ok(kept) => kept,
         Err(error) => return Err(handed_on(error)),
     };
-    match serialize_inner(inner, kept, serializer) {
+    match serialize_region_of_dir(inner, kept, serializer) {
         Ok(at) => Ok(at),
         Err(error) => Err(error),
     }
@@ -769,7 +802,7 @@ fn serialize_entry_sub<S: Writer + Keys + ResolverAlloc>(
 
 // Writes what a value owns.
 #[cycle(serialize_dir)]
-fn serialize_entry<S: Writer + Keys + ResolverAlloc>(
+fn serialize_whole_entry<S: Writer + Keys + ResolverAlloc>(
     value: &Entry,
     serializer: &mut S,
 ) -> Result<EntryResolver, Error>
@@ -792,6 +825,25 @@ fn serialize_entry<S: Writer + Keys + ResolverAlloc>(
             Err(error) => Err(error),
         },
     }
+}
+
+// The same by a call, whose result has its room only while it lasts.
+#[cycle(serialize_dir)]
+#[inline(always)]
+fn serialize_entry<S: Writer + Keys + ResolverAlloc>(
+    value: &Entry,
+    serializer: &mut S,
+) -> Result<EntryResolver, Error>
+    ensures serialized { IfOk result (λ r. Serialized entry_definitions entry_shape
+        (⟦<Entry as Archive>⟧.keys value.now) (⟦<Entry as Archive>⟧.meaning value.now)
+        (⟦<Entry as Archive>⟧.flat value.now r) (S.state serializer.old) (S.state serializer.new)) }
+    ensures same_value { IfOk result (λ r. ⟦<Entry as Archive>⟧.belongs value.now r) }
+    ensures goes_on { GoesOn (S.state serializer.old) (S.state serializer.new) }
+    ensures refused { IfErr result (IsRefused entry_definitions entry_shape
+        (⟦<Entry as Archive>⟧.keys value.now) (⟦<Entry as Archive>⟧.meaning value.now)
+        (S.state serializer.old) (S.state serializer.new)) }
+{
+    serialize_whole_entry(value, serializer)
 }
 
 impl<S: Writer + Keys + ResolverAlloc> Serialize<S> for Entry {

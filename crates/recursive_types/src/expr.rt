@@ -17,6 +17,7 @@ ghost use Rattle.archive_core.specs.CallOutcomes.{ResolvesAs};
 ghost use Rattle.archive_core.specs.Causes.{IsRefused};
 ghost use Rattle.archive_core.specs.Definitions.{no_definition};
 ghost use Rattle.archive_core.specs.Expressed.{ExpressesParts, ExpressesVariants};
+ghost use Rattle.archive_core.specs.Held.{InnerListed, ListingRefused};
 ghost use Rattle.archive_core.specs.Payloads.{payload_in};
 ghost use Rattle.archive_core.specs.PlannedOwners.{one_planned};
 ghost use Rattle.archive_core.specs.Plans.{Serialized};
@@ -26,6 +27,7 @@ ghost use Rattle.archive_core.specs.SealOutcomes.{IsSealOf, SealsPart, seal_tag}
 ghost use Rattle.archive_core.specs.Seen.{IsPartOf, RefusesPart, ShowsValueOf, part_tag, tag_of};
 ghost use Rattle.archive_core.specs.SelfCheck.Laws.{by_schema};
 ghost use Rattle.archive_core.specs.Shape.{boxed, one, part, parts, variant, vec};
+ghost use Rattle.archive_core.specs.SourceOutcomes.{BoxesInner};
 ghost use Rattle.archive_core.specs.Value.{case, no_value, value};
 ghost use Rattle.archive_core.specs.Writing.{ZeroedPlace};
 ghost use Rattle.archive_core.specs.Written.{GoesOn};
@@ -55,7 +57,7 @@ use archive_core::traits::{
 };
 use archive_core::vec::{ArchivedVec, VecResolver};
 use archive_core::view::{RawView, Ref};
-use std::alloc::{AllocError, Global};
+use std::alloc::{AllocError, Allocator, Global};
 
 /// An archived `Expr`: 24 bytes at a multiple of 8. It is validated by its schema.
 pub struct ArchivedExpr;
@@ -267,6 +269,39 @@ impl Archive for Expr {
     }
 }
 
+// Writes the region of elements, by a call where there are some, whose result has its room only while it lasts.
+#[inline(always)]
+fn serialize_run_of_expr<S: Writer + ResolverAlloc, T: Archive, B: Allocator + Drop>(
+    values: &[T],
+    resolvers: Vec<T::Resolver, B>,
+    serializer: &mut S,
+) -> Result<VecResolver, Error>
+    requires same_values { EachBelongs T.belongs values.now resolvers.items }
+    ensures listed { IfOk result (InnerListed T.Archive T.Archived.Portable values.now
+        resolvers.items S.Keys serializer) }
+    ensures goes_on { GoesOn (S.state serializer.old) (S.state serializer.new) }
+    ensures refused { IfErr result (ListingRefused T.Archive T.Archived.Portable values.now
+        resolvers.items S.Keys serializer) }
+{
+    if values.is_empty() {
+        return serialize_inner_slice(values, resolvers, serializer);
+    }
+    serialize_inner_slice(values, resolvers, serializer)
+}
+
+// Writes the region of a value by a call, whose result has its room only while it lasts.
+#[inline(always)]
+fn serialize_region_of_expr<S: Writer + ResolverAlloc, T: Archive>(
+    value: &T,
+    resolver: T::Resolver,
+    serializer: &mut S,
+) -> Result<BoxResolver, Error>
+    requires same_value { T.belongs value.now resolver }
+    ensures { BoxesInner T.Archive T.Archived.Portable value.now resolver S.Keys serializer result }
+{
+    serialize_inner(value, resolver, serializer)
+}
+
 // Writes what a box owns.
 #[cycle(serialize_expr)]
 fn serialize_box_expr<S: Writer + Keys + ResolverAlloc>(
@@ -288,7 +323,7 @@ fn serialize_box_expr<S: Writer + Keys + ResolverAlloc>(
         Ok(kept) => kept,
         Err(error) => return Err(handed_on(error)),
     };
-    match serialize_inner(inner, kept, serializer) {
+    match serialize_region_of_expr(inner, kept, serializer) {
         Ok(at) => Ok(at),
         Err(error) => Err(error),
     }
@@ -320,7 +355,7 @@ fn serialize_each_expr<S: Writer + Keys + ResolverAlloc>(
             Ok(resolver) => resolver,
             Err(error) => return Err(handed_on(error)),
         };
-        resolvers.push(resolver).map_err(AllocError::from)?;
+        resolvers.push_reserved(resolver);
     }
     Ok(resolvers)
 }
@@ -349,7 +384,7 @@ fn serialize_vec_expr<S: Writer + Keys + ResolverAlloc>(
         Ok(kept) => kept,
         Err(error) => return Err(error),
     };
-    match serialize_inner_slice(items, kept, serializer) {
+    match serialize_run_of_expr(items, kept, serializer) {
         Ok(at) => Ok(at),
         Err(error) => Err(error),
     }
@@ -413,7 +448,7 @@ fn serialize_expr_call<S: Writer + Keys + ResolverAlloc>(
 
 // Writes what a value owns.
 #[cycle(serialize_expr)]
-fn serialize_expr<S: Writer + Keys + ResolverAlloc>(
+fn serialize_whole_expr<S: Writer + Keys + ResolverAlloc>(
     value: &Expr,
     serializer: &mut S,
 ) -> Result<ExprResolver, Error>
@@ -447,6 +482,25 @@ fn serialize_expr<S: Writer + Keys + ResolverAlloc>(
             Err(error) => Err(error),
         },
     }
+}
+
+// The same by a call, whose result has its room only while it lasts.
+#[cycle(serialize_expr)]
+#[inline(always)]
+fn serialize_expr<S: Writer + Keys + ResolverAlloc>(
+    value: &Expr,
+    serializer: &mut S,
+) -> Result<ExprResolver, Error>
+    ensures serialized { IfOk result (λ r. Serialized expr_definitions expr_shape
+        (⟦<Expr as Archive>⟧.keys value.now) (⟦<Expr as Archive>⟧.meaning value.now)
+        (⟦<Expr as Archive>⟧.flat value.now r) (S.state serializer.old) (S.state serializer.new)) }
+    ensures same_value { IfOk result (λ r. ⟦<Expr as Archive>⟧.belongs value.now r) }
+    ensures goes_on { GoesOn (S.state serializer.old) (S.state serializer.new) }
+    ensures refused { IfErr result (IsRefused expr_definitions expr_shape
+        (⟦<Expr as Archive>⟧.keys value.now) (⟦<Expr as Archive>⟧.meaning value.now)
+        (S.state serializer.old) (S.state serializer.new)) }
+{
+    serialize_whole_expr(value, serializer)
 }
 
 impl<S: Writer + Keys + ResolverAlloc> Serialize<S> for Expr {

@@ -27,6 +27,7 @@ ghost use Rattle.archive_core.specs.SealOutcomes.{IsSealOf, SealsPart};
 ghost use Rattle.archive_core.specs.Seen.{IsPartOf, RefusesPart, ShowsValueOf};
 ghost use Rattle.archive_core.specs.SelfCheck.Laws.{by_schema};
 ghost use Rattle.archive_core.specs.Shape.{boxed, one, part, parts};
+ghost use Rattle.archive_core.specs.SourceOutcomes.{BoxesInner};
 ghost use Rattle.archive_core.specs.Value.{value};
 ghost use Rattle.archive_core.specs.Writing.{ZeroedPlace};
 ghost use Rattle.archive_core.specs.Written.{GoesOn};
@@ -212,8 +213,22 @@ impl Archive for Search {
     }
 }
 
+// Writes the region of a value by a call, whose result has its room only while it lasts.
+#[inline(always)]
+fn serialize_region_of_search<S: Writer + ResolverAlloc, T: Archive>(
+    value: &T,
+    resolver: T::Resolver,
+    serializer: &mut S,
+) -> Result<BoxResolver, Error>
+    requires same_value { T.belongs value.now resolver }
+    ensures { BoxesInner T.Archive T.Archived.Portable value.now resolver S.Keys serializer result }
+{
+    serialize_inner(value, resolver, serializer)
+}
+
 // Writes what an option owns.
 #[cycle(serialize_search)]
+#[inline(always)]
 fn serialize_option_box_search<S: Writer + Keys + ResolverAlloc>(
     value: &Option<Box<Search>>,
     serializer: &mut S,
@@ -237,7 +252,7 @@ fn serialize_option_box_search<S: Writer + Keys + ResolverAlloc>(
                 Ok(kept) => kept,
                 Err(error) => return Err(handed_on(error)),
             };
-            match serialize_inner(inner, kept, serializer) {
+            match serialize_region_of_search(inner, kept, serializer) {
                 Ok(at) => Ok(Some(at)),
                 Err(error) => Err(error),
             }
@@ -247,7 +262,7 @@ fn serialize_option_box_search<S: Writer + Keys + ResolverAlloc>(
 
 // Writes what a value owns, part by part.
 #[cycle(serialize_search)]
-fn serialize_search<S: Writer + Keys + ResolverAlloc>(
+fn serialize_whole_search<S: Writer + Keys + ResolverAlloc>(
     value: &Search,
     serializer: &mut S,
 ) -> Result<SearchResolver, Error>
@@ -263,7 +278,7 @@ fn serialize_search<S: Writer + Keys + ResolverAlloc>(
 {
     let a0 = match serialize_option_box_search(&value.left, serializer) {
         Ok(a0) => a0,
-        Err(error) => return Err(error),
+        Err(error) => return Err(handed_on(error)),
     };
     let a1 = match serialize_part(&value.value, serializer) {
         Ok(a1) => a1,
@@ -276,6 +291,26 @@ fn serialize_search<S: Writer + Keys + ResolverAlloc>(
     Ok(SearchResolver {
         kept: (a0, (a1, (a2, ()))),
     })
+}
+
+// The same by a call, whose result has its room only while it lasts.
+#[cycle(serialize_search)]
+#[inline(always)]
+fn serialize_search<S: Writer + Keys + ResolverAlloc>(
+    value: &Search,
+    serializer: &mut S,
+) -> Result<SearchResolver, Error>
+    ensures serialized { IfOk result (λ r. Serialized search_definitions search_shape
+        (⟦<Search as Archive>⟧.keys value.now) (⟦<Search as Archive>⟧.meaning value.now)
+        (⟦<Search as Archive>⟧.flat value.now r) (S.state serializer.old)
+        (S.state serializer.new)) }
+    ensures same_value { IfOk result (λ r. ⟦<Search as Archive>⟧.belongs value.now r) }
+    ensures goes_on { GoesOn (S.state serializer.old) (S.state serializer.new) }
+    ensures refused { IfErr result (IsRefused search_definitions search_shape
+        (⟦<Search as Archive>⟧.keys value.now) (⟦<Search as Archive>⟧.meaning value.now)
+        (S.state serializer.old) (S.state serializer.new)) }
+{
+    serialize_whole_search(value, serializer)
 }
 
 impl<S: Writer + Keys + ResolverAlloc> Serialize<S> for Search {

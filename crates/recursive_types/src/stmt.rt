@@ -18,6 +18,7 @@ ghost use Rattle.archive_core.specs.Causes.{IsRefused};
 ghost use Rattle.archive_core.specs.Definitions.{ExplainsConflict, Extended, defines};
 ghost use Rattle.archive_core.specs.Expressed.{ExpressesParts, ExpressesVariants};
 ghost use Rattle.archive_core.specs.Expressions.{table_of};
+ghost use Rattle.archive_core.specs.Held.{InnerListed, ListingRefused};
 ghost use Rattle.archive_core.specs.Payloads.{payload_in};
 ghost use Rattle.archive_core.specs.PlannedOwners.{one_planned};
 ghost use Rattle.archive_core.specs.Plans.{Serialized};
@@ -54,7 +55,7 @@ use archive_core::traits::{
 };
 use archive_core::vec::{ArchivedVec, VecResolver};
 use archive_core::view::{RawView, Ref};
-use std::alloc::{AllocError, Global};
+use std::alloc::{AllocError, Allocator, Global};
 
 /// An archived `Stmt`: 64 bytes at a multiple of 8. It is validated by its schema.
 pub struct ArchivedStmt;
@@ -272,6 +273,26 @@ impl Archive for Stmt {
     }
 }
 
+// Writes the region of elements, by a call where there are some, whose result has its room only while it lasts.
+#[inline(always)]
+fn serialize_run_of_stmt<S: Writer + ResolverAlloc, T: Archive, B: Allocator + Drop>(
+    values: &[T],
+    resolvers: Vec<T::Resolver, B>,
+    serializer: &mut S,
+) -> Result<VecResolver, Error>
+    requires same_values { EachBelongs T.belongs values.now resolvers.items }
+    ensures listed { IfOk result (InnerListed T.Archive T.Archived.Portable values.now
+        resolvers.items S.Keys serializer) }
+    ensures goes_on { GoesOn (S.state serializer.old) (S.state serializer.new) }
+    ensures refused { IfErr result (ListingRefused T.Archive T.Archived.Portable values.now
+        resolvers.items S.Keys serializer) }
+{
+    if values.is_empty() {
+        return serialize_inner_slice(values, resolvers, serializer);
+    }
+    serialize_inner_slice(values, resolvers, serializer)
+}
+
 // Writes what each of the values owns, in order.
 #[cycle(serialize_stmt)]
 fn serialize_each_stmt<S: Writer + Keys + ResolverAlloc>(
@@ -298,7 +319,7 @@ fn serialize_each_stmt<S: Writer + Keys + ResolverAlloc>(
             Ok(resolver) => resolver,
             Err(error) => return Err(handed_on(error)),
         };
-        resolvers.push(resolver).map_err(AllocError::from)?;
+        resolvers.push_reserved(resolver);
     }
     Ok(resolvers)
 }
@@ -327,7 +348,7 @@ fn serialize_vec_stmt<S: Writer + Keys + ResolverAlloc>(
         Ok(kept) => kept,
         Err(error) => return Err(error),
     };
-    match serialize_inner_slice(items, kept, serializer) {
+    match serialize_run_of_stmt(items, kept, serializer) {
         Ok(at) => Ok(at),
         Err(error) => Err(error),
     }
@@ -400,7 +421,7 @@ fn serialize_stmt_block<S: Writer + Keys + ResolverAlloc>(
 
 // Writes what a value owns.
 #[cycle(serialize_stmt)]
-fn serialize_stmt<S: Writer + Keys + ResolverAlloc>(
+fn serialize_whole_stmt<S: Writer + Keys + ResolverAlloc>(
     value: &Stmt,
     serializer: &mut S,
 ) -> Result<StmtResolver, Error>
@@ -423,6 +444,25 @@ fn serialize_stmt<S: Writer + Keys + ResolverAlloc>(
             Err(error) => Err(error),
         },
     }
+}
+
+// The same by a call, whose result has its room only while it lasts.
+#[cycle(serialize_stmt)]
+#[inline(always)]
+fn serialize_stmt<S: Writer + Keys + ResolverAlloc>(
+    value: &Stmt,
+    serializer: &mut S,
+) -> Result<StmtResolver, Error>
+    ensures serialized { IfOk result (λ r. Serialized stmt_definitions stmt_shape
+        (⟦<Stmt as Archive>⟧.keys value.now) (⟦<Stmt as Archive>⟧.meaning value.now)
+        (⟦<Stmt as Archive>⟧.flat value.now r) (S.state serializer.old) (S.state serializer.new)) }
+    ensures same_value { IfOk result (λ r. ⟦<Stmt as Archive>⟧.belongs value.now r) }
+    ensures goes_on { GoesOn (S.state serializer.old) (S.state serializer.new) }
+    ensures refused { IfErr result (IsRefused stmt_definitions stmt_shape
+        (⟦<Stmt as Archive>⟧.keys value.now) (⟦<Stmt as Archive>⟧.meaning value.now)
+        (S.state serializer.old) (S.state serializer.new)) }
+{
+    serialize_whole_stmt(value, serializer)
 }
 
 impl<S: Writer + Keys + ResolverAlloc> Serialize<S> for Stmt {

@@ -215,7 +215,7 @@ fn serialize_each_tree<S: Writer + Keys + ResolverAlloc>(
             Ok(resolver) => resolver,
             Err(error) => return Err(handed_on(error)),
         };
-        resolvers.push(resolver).map_err(AllocError::from)?;
+        resolvers.push_reserved(resolver);
     }
     Ok(resolvers)
 }

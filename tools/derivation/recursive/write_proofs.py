@@ -1,7 +1,7 @@
 """Proofs that recursive types are written as they say."""
 
 from . import arrays, frames
-from . import map_proofs, weak, writers
+from . import map_proofs, rooms, weak, writers
 from ..common import numbered
 from . import proofs, element_proofs
 
@@ -86,7 +86,8 @@ def those_written(it, case, answers, function, values, as_, calls, oks, errs, co
     for i, err in enumerate(errs):
         # both lemmas take the keys, the meaning, the states and the error
         refused = f"({lemma} {whole_of(it, case)} _ _ _ _ _ {parts.refused(i)})"
-        answers.answer(function, f"returns-{err}-clause-refused", as_("refused_as", refused))
+        told = as_("refused_as", refused)
+        answers.answer(function, f"returns-{err}-clause-refused", f"rw c.handed_on.ensures {told}" if case.is_record and i == rooms.by_call(it, case) else told)
         if i:
             answers.answer(function, f"returns-{err}-clause-goes_on", proofs.all_goes(goes[:i + 1]))
     lemma = "serialized_record" if case.is_record else "serialized_variant"
@@ -138,7 +139,7 @@ def record_written(it, answers):
         more = " refl" if lemma == "written_as" else ""
         return f"({lemma} ({it.n}_has_keys c.args.value.now) ({it.n}_means c.args.value.now){more} {proof})"
 
-    parts_written(it, case, answers, "" if it.is_holder else f"serialize_{it.n}", values, as_)
+    parts_written(it, case, answers, "" if it.is_holder else rooms.level(it), values, as_)
 
 
 def box_written(it, type, answers):
@@ -146,14 +147,14 @@ def box_written(it, type, answers):
     function, inner = f"serialize_{it.word(type)}", f"serialize_{it.word(item)}"
     D, X = it.terms.definitions(item), it.terms.shape(item)
     same = "let same : c.deref-inner.result.now ≡ c.args.value.now.value = grind (arith, common_steps) in rw (← same)"
-    goes = f"(goes_both _ _ _ c.{inner}.ensures.goes_on c.serialize_inner.ensures.goes_on)"
+    goes = f"(goes_both _ _ _ c.{inner}.ensures.goes_on c.{rooms.inner_of(it)}.ensures.goes_on)"
     answers.answer(
         function, "returns-in-Err-clause-refused", f"rw c.handed_on.ensures ({same} (box_refused {D} (one {X}) 0 _ _ _ _ _ (one_owned {D} {X} _ _ _ _ _ c.in-Err.ensures.refused)))"
     )
-    answers.answer(function, "returns-in-Ok-serialize_inner-clause-serialized", f"({same} (c.in-Ok-serialize_inner.ensures.boxed.since _ c.{inner}.ensures.goes_on c.in-Ok.ensures.serialized))")
-    answers.answer(function, "returns-in-Ok-serialize_inner-clause-goes_on", goes)
-    answers.answer(function, "returns-in-Err-serialize_inner-clause-goes_on", goes)
-    answers.answer(function, "returns-in-Err-serialize_inner-clause-refused", f"({same} (c.in-Err-serialize_inner.ensures.refused.since _ c.{inner}.ensures.goes_on c.in-Ok.ensures.serialized))")
+    answers.answer(function, f"returns-in-Ok-{rooms.inner_of(it)}-clause-serialized", f"({same} (c.in-Ok-{rooms.inner_of(it)}.ensures.boxed.since _ c.{inner}.ensures.goes_on c.in-Ok.ensures.serialized))")
+    answers.answer(function, f"returns-in-Ok-{rooms.inner_of(it)}-clause-goes_on", goes)
+    answers.answer(function, f"returns-in-Err-{rooms.inner_of(it)}-clause-goes_on", goes)
+    answers.answer(function, f"returns-in-Err-{rooms.inner_of(it)}-clause-refused", f"({same} (c.in-Err-{rooms.inner_of(it)}.ensures.refused.since _ c.{inner}.ensures.goes_on c.in-Ok.ensures.serialized))")
 
 
 def option_written(it, type, answers):
@@ -166,15 +167,15 @@ def option_written(it, type, answers):
     D, X, Y = it.terms.definitions(type), it.terms.shape(item), it.terms.shape(type.args[0])
     case = f"{D} {D} (λ s k. k) _ _ 1 {Y} refl _ _"
     same = "let same : c.deref-inner.result.now ≡ c.in-Some.whole.value = grind (arith, common_steps) in rw (c.in-Some.is, ← same)"
-    goes = f"(goes_both _ _ _ c.{inner}.ensures.goes_on c.serialize_inner.ensures.goes_on)"
+    goes = f"(goes_both _ _ _ c.{inner}.ensures.goes_on c.{rooms.inner_of(it)}.ensures.goes_on)"
     since = f"ensures.{{}}.since _ c.{inner}.ensures.goes_on c.in-Ok.ensures.serialized"
     owned = f"(box_refused {D} (one {X}) 0 _ _ _ _ _ (one_owned {D} {X} _ _ _ _ _ c.in-Err.ensures.refused))"
     answers.answer(function, "returns-in-None-clause-serialized", f"rw c.in-None.is (serialized_empty_case {D} _ _ 0 refl _)")
     answers.answer(function, "returns-in-Err-clause-refused", f"rw c.handed_on.ensures ({same} (case_refused {case} _ _ _ {owned}))")
-    answers.answer(function, "returns-in-Ok-serialize_inner-clause-serialized", f"({same} (serialized_case {case} _ _ _ (c.in-Ok-serialize_inner.{since.format('boxed')})))")
-    answers.answer(function, "returns-in-Ok-serialize_inner-clause-goes_on", goes)
-    answers.answer(function, "returns-in-Err-serialize_inner-clause-goes_on", goes)
-    answers.answer(function, "returns-in-Err-serialize_inner-clause-refused", f"({same} (case_refused {case} _ _ _ (c.in-Err-serialize_inner.{since.format('refused')})))")
+    answers.answer(function, f"returns-in-Ok-{rooms.inner_of(it)}-clause-serialized", f"({same} (serialized_case {case} _ _ _ (c.in-Ok-{rooms.inner_of(it)}.{since.format('boxed')})))")
+    answers.answer(function, f"returns-in-Ok-{rooms.inner_of(it)}-clause-goes_on", goes)
+    answers.answer(function, f"returns-in-Err-{rooms.inner_of(it)}-clause-goes_on", goes)
+    answers.answer(function, f"returns-in-Err-{rooms.inner_of(it)}-clause-refused", f"({same} (case_refused {case} _ _ _ (c.in-Err-{rooms.inner_of(it)}.{since.format('refused')})))")
 
 
 def run_written(it, type, answers):
@@ -194,9 +195,10 @@ def each_written(it, item, answers):
     if t.is_weak(item):
         weak.bring(answers)
     state = "(g.S.Keys.state l.initial.serializer) (g.S.Keys.state l.serializer)"
+    reserved = "; reserved : (vec_len l.resolvers ≡ l.value-index) × (length l.values ≤ vec_capacity l.resolvers)" if rooms.is_reserved(it, item) else ""
     answers.invariant(
         each, f"invariant-{each}-loop-value",
-        f"record {{ continues : Continues {D} {X} {t.said(item)} {flat} {belongs} {state} l.values (drop l.value-index l.values) l.resolvers.items }}",
+        f"record {{ continues : Continues {D} {X} {t.said(item)} {flat} {belongs} {state} l.values (drop l.value-index l.values) l.resolvers.items{reserved} }}",
     )
     kept = "c.loop-value.invariant.continues"
     answers.answer(each, "returns-in_err-resolvers-clause-refused", "err_by c.from_residual.result OutOfMemory _ c.from_residual.ensures.1 no_memory")
@@ -217,9 +219,12 @@ def each_written(it, item, answers):
     else:
         if it.family.shares:
             answers.answer(each, "returns-in_err-resolvers-clause-goes_on", "goes_nowhere _")
-        answers.answer(each, "returns-in_err-map_err-clause-goes_on", f"goes_both _ _ _ {kept}.goes {steps.goes}")
-        answers.answer(each, "returns-in_err-map_err-clause-refused", not_pushed("in_err-map_err"))
+        if not reserved:
+            answers.answer(each, "returns-in_err-map_err-clause-goes_on", f"goes_both _ _ _ {kept}.goes {steps.goes}")
+            answers.answer(each, "returns-in_err-map_err-clause-refused", not_pushed("in_err-map_err"))
         step = f"continues_step {at} _ _ _ {steps.resolver} c.loop-value-test.true c.value-item.is (grind (arith, common_steps)) {kept} {steps.serialized} {steps.belongs} {steps.goes}"
+        places = [f"grind (arith, common_steps, c.loop-value.invariant.reserved.{i})" for i in (0, 1)]
+        step += f"; reserved = ({', '.join(places)})" if reserved else ""
         answers.answer(each, "loop-value-preserved", f"record {{ continues = {step} }}")
     end = f"_ _ _ _ _ _ _ _ _ _ _ (drop_of_length-le _ c.loop-value-test.false) {kept}"
     answers.answer(each, "returns-clause-serialized", f"continues_end {end}")
@@ -273,7 +278,7 @@ def run_owner_written(it, type, answers):
     plans = f"(each_planned {D} {X} {k} {m} {t.plan(item)} {items})"
     whole = f"{D} {X} (length {items}) (each_keys {k} {items})"
     meaning = f"(list (each_meaning {m} {items}))"
-    inner, ok, since, owned = "serialize_inner_slice", "listed", ".since", f"vec_refused {whole}"
+    inner, ok, since, owned = rooms.run_of(it), "listed", ".since", f"vec_refused {whole}"
     if type.name == "BoxSlice":
         inner, ok, since, owned = "serialize_inner_box_slice", "boxed", "", f"box_refused {D} (run {X}) (length {items}) (each_keys {k} {items})"
     # where an empty vector is written in line, what is behind it is known under longer names
@@ -307,7 +312,7 @@ def empty_run_written(it, item, answers, function, said):
 
 def choice_written(it, answers):
     """The answers of the function that goes by the variant."""
-    function = "" if it.is_holder else f"serialize_{it.n}"
+    function = "" if it.is_holder else rooms.level(it)
     inline = {case.name: writers.is_inline(case) for case in it.cases}
     made = [(case.name, word) for case in it.cases for word in (proofs.words_of(it, case) if inline[case.name] else [f"serialize_{case.n}"] if case.count else [])]
     words = [word for _, word in made]

@@ -3,6 +3,7 @@
 from . import arrays
 from . import frames
 from . import maps
+from . import rooms
 from . import slices
 from . import tuples
 from ..common import chain, infix
@@ -12,13 +13,13 @@ from . import code, resolvers
 
 
 def writing(it):
-    out = [owner_writing(it, type) for type in it.owners if it.is_written(type)]
+    out = [rooms.regions(it)] + [owner_writing(it, type) for type in it.owners if it.is_written(type)]
     if it.is_record:
         out.append(record_writing(it))
     else:
         out += [case_writing(it, case) for case in it.cases if case.count and not is_inline(case)]
         out.append(choice_writing(it))
-    return "\n".join(out)
+    return "\n".join(piece for piece in out if piece)
 
 
 def contract(it, type, v):
@@ -55,7 +56,7 @@ fn serialize_{name}<{it.writer}>(value: &{T}, serializer: &mut S) -> Result<BoxR
         Ok(kept) => kept,
         Err(error) => return Err(handed_on(error)),
     }};
-    match serialize_inner(inner, kept, serializer) {{
+    match {rooms.inner_of(it)}(inner, kept, serializer) {{
         Ok(at) => Ok(at),
         Err(error) => Err(error),
     }}
@@ -86,7 +87,7 @@ fn serialize_{name}<{it.writer}>(value: &{T}, serializer: &mut S) -> Result<RcWe
     if type.name == "Option":
         return f"""// Writes what an option owns.
 #[cycle(serialize_{it.family.n})]
-fn serialize_{name}<{it.writer}>(value: &{T}, serializer: &mut S) -> Result<{resolvers.kept(it, type)}, Error>
+{code.ALWAYS}fn serialize_{name}<{it.writer}>(value: &{T}, serializer: &mut S) -> Result<{resolvers.kept(it, type)}, Error>
 {contract(it, type, "value")}{{
     match value {{
         None => Ok(None),
@@ -96,7 +97,7 @@ fn serialize_{name}<{it.writer}>(value: &{T}, serializer: &mut S) -> Result<{res
                 Ok(kept) => kept,
                 Err(error) => return Err(handed_on(error)),
             }};
-            match serialize_inner(inner, kept, serializer) {{
+            match {rooms.inner_of(it)}(inner, kept, serializer) {{
                 Ok(at) => Ok(Some(at)),
                 Err(error) => Err(error),
             }}
@@ -215,7 +216,7 @@ def boxed_contract(it, type):
 
 def run_writing(it, type):
     """The function that writes what a vector, or a boxed slice, owns."""
-    of, what, region, says = it.formats.rust(type), "a vector", "serialize_inner_slice", contract(it, type, "value")
+    of, what, region, says = it.formats.rust(type), "a vector", rooms.run_of(it), contract(it, type, "value")
     if type.name == "BoxSlice":
         of, what, region, says = f"Vec<{it.formats.rust(type.args[0])}>", "a boxed slice of these elements", "serialize_inner_box_slice", boxed_contract(it, type)
     return f"""// Writes what {what} owns.
@@ -260,7 +261,7 @@ def of_no_elements(it, region):
 def element_written(it, item):
     """The lines that write what an element of a vector owns, and keep its resolver. A box's value is written where the vector is gone over, and a tuple's: of a
     function that is passed the box or the tuple the toolchain doesn't see that it ends."""
-    push = "resolvers.push({}).map_err(AllocError::from)?;"
+    push = "resolvers.push_reserved({});" if rooms.is_reserved(it, item) else "resolvers.push({}).map_err(AllocError::from)?;"
     if it.terms.is_row(item):
         row = it.row(item)
         written = parts_written(it, row, [f"&value.{i}" for i in range(row.count)], 8, row.first_back)
@@ -343,7 +344,7 @@ def inner_written(it, box, name, indent):
 {pad}    Ok(kept) => kept,
 {pad}    Err(error) => return Err(handed_on(error)),
 {pad}}};
-{pad}let resolver = match serialize_inner(inner, kept, serializer) {{
+{pad}let resolver = match {rooms.inner_of(it)}(inner, kept, serializer) {{
 {pad}    Ok(resolver) => resolver,
 {pad}    Err(error) => return Err(error),
 {pad}}};
@@ -433,23 +434,23 @@ def choice_writing(it):
         }},
 """
     return f"""// Writes what a value owns.
-{cycle_of(it)}fn serialize_{it.n}<{it.writer}>(value: &{it.name}, serializer: &mut S) -> Result<{it.resolver}, Error>
+{cycle_of(it)}fn {rooms.level(it)}<{it.writer}>(value: &{it.name}, serializer: &mut S) -> Result<{it.resolver}, Error>
 {contract(it, it.itself, "value")}{{
     match value {{
 {arms}    }}
 }}
-"""
+{rooms.level_call(it, cycle_of(it), contract(it, it.itself, "value"))}"""
 
 
 def record_writing(it):
     case = it.cases[0]
     values = [f"&value.{field.name}" for field in case.fields]
     return f"""// Writes what a value owns, part by part.
-{cycle_of(it)}{in_line(it)}fn serialize_{it.n}<{it.writer}>(value: &{it.name}, serializer: &mut S) -> Result<{it.resolver}, Error>
+{cycle_of(it)}{in_line(it)}fn {rooms.level(it)}<{it.writer}>(value: &{it.name}, serializer: &mut S) -> Result<{it.resolver}, Error>
 {contract(it, it.itself, "value")}{{
-{parts_written(it, case, values)}    Ok({it.resolver} {{ kept: {flat(pair(case.names))} }})
+{parts_written(it, case, values, by_call=rooms.by_call(it, case))}    Ok({it.resolver} {{ kept: {flat(pair(case.names))} }})
 }}
-"""
+{rooms.level_call(it, cycle_of(it), contract(it, it.itself, "value"))}"""
 
 
 def serialize(it):

@@ -79,17 +79,17 @@ serialize_map_string_folder-returns-in-Err-serialize_inner_map-clause-goes_on g 
 pub serialize_map_string_folder-returns-in-Err-serialize_inner_map-clause-refused : goal.serialize_map_string_folder-returns-in-Err-serialize_inner_map-clause-refused
 serialize_map_string_folder-returns-in-Err-serialize_inner_map-clause-refused g t c = c.in-Err-serialize_inner_map.ensures.refused.since _ c.serialize_entries_map_string_folder.ensures.goes_on c.in-Ok.ensures.serialized
 
-pub serialize_folder-returns-in-Err-clause-refused : goal.serialize_folder-returns-in-Err-clause-refused
-serialize_folder-returns-in-Err-clause-refused g t c = (refused_as (folder_has_keys c.args.value.now) (folder_means c.args.value.now) (record_refused folder_definitions folder_shape folder_part_definitions folder_parts folder_has_parts _ _ _ _ _ (first_refused no_definition (both pair_string_folder_definitions no_definition) (leaf (number_kind unsigned w8)) (part (sorted_map str_key folder_shape) no_part) [] ((each_keys (λ y. ([] ++ ((folder_keys y.1) ++ []))) (out-Folder c.args.value.now).entries.entries) ++ []) (number (pos (out-Folder c.args.value.now).id)) (value (list (each_meaning (λ y. (product (value (text_value (string_bytes y.0)) (value (folder_meaning y.1) no_value)))) (out-Folder c.args.value.now).entries.entries)) no_value) _ _ _ (part_planned pair_string_folder_definitions (sorted_map str_key folder_shape) (each_keys (λ y. ([] ++ ((folder_keys y.1) ++ []))) (out-Folder c.args.value.now).entries.entries) (list (each_meaning (λ y. (product (value (text_value (string_bytes y.0)) (value (folder_meaning y.1) no_value)))) (out-Folder c.args.value.now).entries.entries)) (map_planned pair_string_folder_definitions str_key folder_shape _ _ _ (slice_planned pair_string_folder_definitions pair_string_folder_shape (λ y. ([] ++ ((folder_keys y.1) ++ []))) (λ y. (product (value (text_value (string_bytes y.0)) (value (folder_meaning y.1) no_value)))) (λ y. (product_planned _ _ _ _ (part_planned no_definition str [] (text_value (string_bytes y.0)) (string_planned no_definition [] (string_bytes y.0)) (part_planned folder_definitions folder_shape (folder_keys y.1) (folder_meaning y.1) (folder_planned y.1) no_part_planned)))) (out-Folder c.args.value.now).entries.entries)) no_part_planned) c.in-Err.ensures.refused)))
+pub serialize_whole_folder-returns-in-Err-clause-refused : goal.serialize_whole_folder-returns-in-Err-clause-refused
+serialize_whole_folder-returns-in-Err-clause-refused g t c = (refused_as (folder_has_keys c.args.value.now) (folder_means c.args.value.now) (record_refused folder_definitions folder_shape folder_part_definitions folder_parts folder_has_parts _ _ _ _ _ (first_refused no_definition (both pair_string_folder_definitions no_definition) (leaf (number_kind unsigned w8)) (part (sorted_map str_key folder_shape) no_part) [] ((each_keys (λ y. ([] ++ ((folder_keys y.1) ++ []))) (out-Folder c.args.value.now).entries.entries) ++ []) (number (pos (out-Folder c.args.value.now).id)) (value (list (each_meaning (λ y. (product (value (text_value (string_bytes y.0)) (value (folder_meaning y.1) no_value)))) (out-Folder c.args.value.now).entries.entries)) no_value) _ _ _ (part_planned pair_string_folder_definitions (sorted_map str_key folder_shape) (each_keys (λ y. ([] ++ ((folder_keys y.1) ++ []))) (out-Folder c.args.value.now).entries.entries) (list (each_meaning (λ y. (product (value (text_value (string_bytes y.0)) (value (folder_meaning y.1) no_value)))) (out-Folder c.args.value.now).entries.entries)) (map_planned pair_string_folder_definitions str_key folder_shape _ _ _ (slice_planned pair_string_folder_definitions pair_string_folder_shape (λ y. ([] ++ ((folder_keys y.1) ++ []))) (λ y. (product (value (text_value (string_bytes y.0)) (value (folder_meaning y.1) no_value)))) (λ y. (product_planned _ _ _ _ (part_planned no_definition str [] (text_value (string_bytes y.0)) (string_planned no_definition [] (string_bytes y.0)) (part_planned folder_definitions folder_shape (folder_keys y.1) (folder_meaning y.1) (folder_planned y.1) no_part_planned)))) (out-Folder c.args.value.now).entries.entries)) no_part_planned) c.in-Err.ensures.refused)))
 
-pub serialize_folder-returns-in-Err-serialize_map_string_folder-clause-refused : goal.serialize_folder-returns-in-Err-serialize_map_string_folder-clause-refused
-serialize_folder-returns-in-Err-serialize_map_string_folder-clause-refused g t c = (refused_as (folder_has_keys c.args.value.now) (folder_means c.args.value.now) (record_refused folder_definitions folder_shape folder_part_definitions folder_parts folder_has_parts _ _ _ _ _ (later_refused no_definition (both pair_string_folder_definitions no_definition) (leaf (number_kind unsigned w8)) (part (sorted_map str_key folder_shape) no_part) [] ((each_keys (λ y. ([] ++ ((folder_keys y.1) ++ []))) (out-Folder c.args.value.now).entries.entries) ++ []) (number (pos (out-Folder c.args.value.now).id)) (value (list (each_meaning (λ y. (product (value (text_value (string_bytes y.0)) (value (folder_meaning y.1) no_value)))) (out-Folder c.args.value.now).entries.entries)) no_value) _ _ _ _ _ c.in-Ok.ensures.serialized c.serialize_part.ensures.goes_on c.serialize_map_string_folder.ensures.goes_on (first_refused pair_string_folder_definitions no_definition (sorted_map str_key folder_shape) no_part (each_keys (λ y. ([] ++ ((folder_keys y.1) ++ []))) (out-Folder c.args.value.now).entries.entries) [] (list (each_meaning (λ y. (product (value (text_value (string_bytes y.0)) (value (folder_meaning y.1) no_value)))) (out-Folder c.args.value.now).entries.entries)) no_value _ _ _ no_part_planned c.in-Err-serialize_map_string_folder.ensures.refused))))
+pub serialize_whole_folder-returns-in-Err-serialize_map_string_folder-clause-refused : goal.serialize_whole_folder-returns-in-Err-serialize_map_string_folder-clause-refused
+serialize_whole_folder-returns-in-Err-serialize_map_string_folder-clause-refused g t c = rw c.handed_on.ensures (refused_as (folder_has_keys c.args.value.now) (folder_means c.args.value.now) (record_refused folder_definitions folder_shape folder_part_definitions folder_parts folder_has_parts _ _ _ _ _ (later_refused no_definition (both pair_string_folder_definitions no_definition) (leaf (number_kind unsigned w8)) (part (sorted_map str_key folder_shape) no_part) [] ((each_keys (λ y. ([] ++ ((folder_keys y.1) ++ []))) (out-Folder c.args.value.now).entries.entries) ++ []) (number (pos (out-Folder c.args.value.now).id)) (value (list (each_meaning (λ y. (product (value (text_value (string_bytes y.0)) (value (folder_meaning y.1) no_value)))) (out-Folder c.args.value.now).entries.entries)) no_value) _ _ _ _ _ c.in-Ok.ensures.serialized c.serialize_part.ensures.goes_on c.serialize_map_string_folder.ensures.goes_on (first_refused pair_string_folder_definitions no_definition (sorted_map str_key folder_shape) no_part (each_keys (λ y. ([] ++ ((folder_keys y.1) ++ []))) (out-Folder c.args.value.now).entries.entries) [] (list (each_meaning (λ y. (product (value (text_value (string_bytes y.0)) (value (folder_meaning y.1) no_value)))) (out-Folder c.args.value.now).entries.entries)) no_value _ _ _ no_part_planned c.in-Err-serialize_map_string_folder.ensures.refused))))
 
-pub serialize_folder-returns-in-Err-serialize_map_string_folder-clause-goes_on : goal.serialize_folder-returns-in-Err-serialize_map_string_folder-clause-goes_on
-serialize_folder-returns-in-Err-serialize_map_string_folder-clause-goes_on g t c = (goes_both _ _ _ c.serialize_part.ensures.goes_on c.serialize_map_string_folder.ensures.goes_on)
+pub serialize_whole_folder-returns-in-Err-serialize_map_string_folder-clause-goes_on : goal.serialize_whole_folder-returns-in-Err-serialize_map_string_folder-clause-goes_on
+serialize_whole_folder-returns-in-Err-serialize_map_string_folder-clause-goes_on g t c = (goes_both _ _ _ c.serialize_part.ensures.goes_on c.serialize_map_string_folder.ensures.goes_on)
 
-pub serialize_folder-returns-clause-serialized : goal.serialize_folder-returns-clause-serialized
-serialize_folder-returns-clause-serialized g t c = (written_as (folder_has_keys c.args.value.now) (folder_means c.args.value.now) refl (serialized_record folder_definitions folder_shape folder_part_definitions folder_parts folder_has_parts _ _ _ _ _ (serialized_part no_definition (both pair_string_folder_definitions no_definition) (leaf (number_kind unsigned w8)) (part (sorted_map str_key folder_shape) no_part) [] ((each_keys (λ y. ([] ++ ((folder_keys y.1) ++ []))) (out-Folder c.args.value.now).entries.entries) ++ []) (number (pos (out-Folder c.args.value.now).id)) (value (list (each_meaning (λ y. (product (value (text_value (string_bytes y.0)) (value (folder_meaning y.1) no_value)))) (out-Folder c.args.value.now).entries.entries)) no_value) _ _ _ _ _ c.in-Ok.ensures.serialized (serialized_part pair_string_folder_definitions no_definition (sorted_map str_key folder_shape) no_part (each_keys (λ y. ([] ++ ((folder_keys y.1) ++ []))) (out-Folder c.args.value.now).entries.entries) [] (list (each_meaning (λ y. (product (value (text_value (string_bytes y.0)) (value (folder_meaning y.1) no_value)))) (out-Folder c.args.value.now).entries.entries)) no_value _ _ _ _ _ c.in-Ok-serialize_map_string_folder.ensures.serialized (serialized_no_part no_definition _)))))
+pub serialize_whole_folder-returns-clause-serialized : goal.serialize_whole_folder-returns-clause-serialized
+serialize_whole_folder-returns-clause-serialized g t c = (written_as (folder_has_keys c.args.value.now) (folder_means c.args.value.now) refl (serialized_record folder_definitions folder_shape folder_part_definitions folder_parts folder_has_parts _ _ _ _ _ (serialized_part no_definition (both pair_string_folder_definitions no_definition) (leaf (number_kind unsigned w8)) (part (sorted_map str_key folder_shape) no_part) [] ((each_keys (λ y. ([] ++ ((folder_keys y.1) ++ []))) (out-Folder c.args.value.now).entries.entries) ++ []) (number (pos (out-Folder c.args.value.now).id)) (value (list (each_meaning (λ y. (product (value (text_value (string_bytes y.0)) (value (folder_meaning y.1) no_value)))) (out-Folder c.args.value.now).entries.entries)) no_value) _ _ _ _ _ c.in-Ok.ensures.serialized (serialized_part pair_string_folder_definitions no_definition (sorted_map str_key folder_shape) no_part (each_keys (λ y. ([] ++ ((folder_keys y.1) ++ []))) (out-Folder c.args.value.now).entries.entries) [] (list (each_meaning (λ y. (product (value (text_value (string_bytes y.0)) (value (folder_meaning y.1) no_value)))) (out-Folder c.args.value.now).entries.entries)) no_value _ _ _ _ _ c.in-Ok-serialize_map_string_folder.ensures.serialized (serialized_no_part no_definition _)))))
 
-pub serialize_folder-returns-clause-goes_on : goal.serialize_folder-returns-clause-goes_on
-serialize_folder-returns-clause-goes_on g t c = (goes_both _ _ _ c.serialize_part.ensures.goes_on c.serialize_map_string_folder.ensures.goes_on)
+pub serialize_whole_folder-returns-clause-goes_on : goal.serialize_whole_folder-returns-clause-goes_on
+serialize_whole_folder-returns-clause-goes_on g t c = (goes_both _ _ _ c.serialize_part.ensures.goes_on c.serialize_map_string_folder.ensures.goes_on)

@@ -56,14 +56,8 @@ serialize_each_tuple3_string_note_option_string-returns-in_err-resolvers-clause-
 pub serialize_each_tuple3_string_note_option_string-serialize_note-requires : goal.serialize_each_tuple3_string_note_option_string-serialize_note-requires
 serialize_each_tuple3_string_note_option_string-serialize_note-requires g t c κs within = (omega (arith, c.decreases, no_deeper _ _ _ _ c.args.values.now c.loop-value.value-index c.value-item.result c.decreases c.loop-value-test.true c.value-item.is), within)
 
-pub serialize_each_tuple3_string_note_option_string-returns-in_err-map_err-clause-goes_on : goal.serialize_each_tuple3_string_note_option_string-returns-in_err-map_err-clause-goes_on
-serialize_each_tuple3_string_note_option_string-returns-in_err-map_err-clause-goes_on g t c = goes_both _ _ _ c.loop-value.invariant.continues.goes (goes_both _ _ _ (goes_both _ _ _ c.serialize_part.ensures.goes_on c.serialize_note.ensures.goes_on) c.serialize_part-in-loop-value.ensures.goes_on)
-
-pub serialize_each_tuple3_string_note_option_string-returns-in_err-map_err-clause-refused : goal.serialize_each_tuple3_string_note_option_string-returns-in_err-map_err-clause-refused
-serialize_each_tuple3_string_note_option_string-returns-in_err-map_err-clause-refused g t c = err_by c.from_residual-in_err-map_err.result OutOfMemory _ c.from_residual-in_err-map_err.ensures.1 no_memory
-
 pub serialize_each_tuple3_string_note_option_string-loop-value-preserved : goal.serialize_each_tuple3_string_note_option_string-loop-value-preserved
-serialize_each_tuple3_string_note_option_string-loop-value-preserved g t c = record { continues = continues_step _ _ _ _ _ _ _ _ _ _ c.loop-value.value-index _ _ _ (c.in-Ok.a0, (c.in-Ok-serialize_note.a1, (c.in-Ok-serialize_part.a2, tt))) c.loop-value-test.true c.value-item.is (grind (arith, common_steps)) c.loop-value.invariant.continues (serialized_record tuple3_string_note_option_string_definitions tuple3_string_note_option_string_shape tuple3_string_note_option_string_definitions tuple3_string_note_option_string_parts tuple3_string_note_option_string_has_parts _ _ _ _ _ (serialized_part no_definition (both note_definitions (both no_definition no_definition)) str (part note_shape (part (option_shape str) no_part)) [] ((note_keys c.value-item.result.1) ++ ((option_keys (λ y. []) c.value-item.result.2) ++ [])) (text_value (string_bytes c.value-item.result.0)) (value (note_meaning c.value-item.result.1) (value (option_meaning (λ y. (text_value (string_bytes y))) c.value-item.result.2) no_value)) _ _ _ _ _ c.in-Ok.ensures.serialized (serialized_part note_definitions (both no_definition no_definition) note_shape (part (option_shape str) no_part) (note_keys c.value-item.result.1) ((option_keys (λ y. []) c.value-item.result.2) ++ []) (note_meaning c.value-item.result.1) (value (option_meaning (λ y. (text_value (string_bytes y))) c.value-item.result.2) no_value) _ _ _ _ _ c.in-Ok-serialize_note.ensures.serialized (serialized_part no_definition no_definition (option_shape str) no_part (option_keys (λ y. []) c.value-item.result.2) [] (option_meaning (λ y. (text_value (string_bytes y))) c.value-item.result.2) no_value _ _ _ _ _ c.in-Ok-serialize_part.ensures.serialized (serialized_no_part no_definition _))))) (c.in-Ok.ensures.same_value, (c.in-Ok-serialize_note.ensures.same_value, (c.in-Ok-serialize_part.ensures.same_value, tt))) (goes_both _ _ _ (goes_both _ _ _ c.serialize_part.ensures.goes_on c.serialize_note.ensures.goes_on) c.serialize_part-in-loop-value.ensures.goes_on) }
+serialize_each_tuple3_string_note_option_string-loop-value-preserved g t c = record { continues = continues_step _ _ _ _ _ _ _ _ _ _ c.loop-value.value-index _ _ _ (c.in-Ok.a0, (c.in-Ok-serialize_note.a1, (c.in-Ok-serialize_part.a2, tt))) c.loop-value-test.true c.value-item.is (grind (arith, common_steps)) c.loop-value.invariant.continues (serialized_record tuple3_string_note_option_string_definitions tuple3_string_note_option_string_shape tuple3_string_note_option_string_definitions tuple3_string_note_option_string_parts tuple3_string_note_option_string_has_parts _ _ _ _ _ (serialized_part no_definition (both note_definitions (both no_definition no_definition)) str (part note_shape (part (option_shape str) no_part)) [] ((note_keys c.value-item.result.1) ++ ((option_keys (λ y. []) c.value-item.result.2) ++ [])) (text_value (string_bytes c.value-item.result.0)) (value (note_meaning c.value-item.result.1) (value (option_meaning (λ y. (text_value (string_bytes y))) c.value-item.result.2) no_value)) _ _ _ _ _ c.in-Ok.ensures.serialized (serialized_part note_definitions (both no_definition no_definition) note_shape (part (option_shape str) no_part) (note_keys c.value-item.result.1) ((option_keys (λ y. []) c.value-item.result.2) ++ []) (note_meaning c.value-item.result.1) (value (option_meaning (λ y. (text_value (string_bytes y))) c.value-item.result.2) no_value) _ _ _ _ _ c.in-Ok-serialize_note.ensures.serialized (serialized_part no_definition no_definition (option_shape str) no_part (option_keys (λ y. []) c.value-item.result.2) [] (option_meaning (λ y. (text_value (string_bytes y))) c.value-item.result.2) no_value _ _ _ _ _ c.in-Ok-serialize_part.ensures.serialized (serialized_no_part no_definition _))))) (c.in-Ok.ensures.same_value, (c.in-Ok-serialize_note.ensures.same_value, (c.in-Ok-serialize_part.ensures.same_value, tt))) (goes_both _ _ _ (goes_both _ _ _ c.serialize_part.ensures.goes_on c.serialize_note.ensures.goes_on) c.serialize_part-in-loop-value.ensures.goes_on); reserved = (grind (arith, common_steps, c.loop-value.invariant.reserved.0), grind (arith, common_steps, c.loop-value.invariant.reserved.1)) }
 
 pub serialize_each_tuple3_string_note_option_string-returns-clause-serialized : goal.serialize_each_tuple3_string_note_option_string-returns-clause-serialized
 serialize_each_tuple3_string_note_option_string-returns-clause-serialized g t c = continues_end _ _ _ _ _ _ _ _ _ _ _ (drop_of_length-le _ c.loop-value-test.false) c.loop-value.invariant.continues
@@ -77,17 +71,17 @@ serialize_vec_tuple3_string_note_option_string-returns-then-len-clause-refused g
 pub serialize_vec_tuple3_string_note_option_string-returns-in-Err-clause-refused : goal.serialize_vec_tuple3_string_note_option_string-returns-in-Err-clause-refused
 serialize_vec_tuple3_string_note_option_string-returns-in-Err-clause-refused g t c = vec_refused tuple3_string_note_option_string_definitions tuple3_string_note_option_string_shape (length c.args.value.now.items) (each_keys (λ y. ([] ++ ((note_keys y.1) ++ ((option_keys (λ y. []) y.2) ++ [])))) c.args.value.now.items) (list (each_meaning (λ y. (product (value (text_value (string_bytes y.0)) (value (note_meaning y.1) (value (option_meaning (λ y. (text_value (string_bytes y))) y.2) no_value))))) c.args.value.now.items)) _ _ _ (run_owned tuple3_string_note_option_string_definitions tuple3_string_note_option_string_shape (length c.args.value.now.items) (each_keys (λ y. ([] ++ ((note_keys y.1) ++ ((option_keys (λ y. []) y.2) ++ [])))) c.args.value.now.items) (each_meaning (λ y. (product (value (text_value (string_bytes y.0)) (value (note_meaning y.1) (value (option_meaning (λ y. (text_value (string_bytes y))) y.2) no_value))))) c.args.value.now.items) _ _ _ (rw c.as_slice-items.ensures.value at c.in-Err.ensures.refused))
 
-pub serialize_vec_tuple3_string_note_option_string-returns-in-Ok-serialize_inner_slice-clause-serialized : goal.serialize_vec_tuple3_string_note_option_string-returns-in-Ok-serialize_inner_slice-clause-serialized
-serialize_vec_tuple3_string_note_option_string-returns-in-Ok-serialize_inner_slice-clause-serialized g t c = (rw c.as_slice-items.ensures.value at c.in-Ok-serialize_inner_slice.ensures.listed).since _ c.serialize_each_tuple3_string_note_option_string.ensures.goes_on (rw c.as_slice-items.ensures.value at c.in-Ok.ensures.serialized)
+pub serialize_vec_tuple3_string_note_option_string-returns-in-Ok-serialize_run_of_note-clause-serialized : goal.serialize_vec_tuple3_string_note_option_string-returns-in-Ok-serialize_run_of_note-clause-serialized
+serialize_vec_tuple3_string_note_option_string-returns-in-Ok-serialize_run_of_note-clause-serialized g t c = (rw c.as_slice-items.ensures.value at c.in-Ok-serialize_run_of_note.ensures.listed).since _ c.serialize_each_tuple3_string_note_option_string.ensures.goes_on (rw c.as_slice-items.ensures.value at c.in-Ok.ensures.serialized)
 
-pub serialize_vec_tuple3_string_note_option_string-returns-in-Ok-serialize_inner_slice-clause-goes_on : goal.serialize_vec_tuple3_string_note_option_string-returns-in-Ok-serialize_inner_slice-clause-goes_on
-serialize_vec_tuple3_string_note_option_string-returns-in-Ok-serialize_inner_slice-clause-goes_on g t c = (goes_both _ _ _ c.serialize_each_tuple3_string_note_option_string.ensures.goes_on c.serialize_inner_slice.ensures.goes_on)
+pub serialize_vec_tuple3_string_note_option_string-returns-in-Ok-serialize_run_of_note-clause-goes_on : goal.serialize_vec_tuple3_string_note_option_string-returns-in-Ok-serialize_run_of_note-clause-goes_on
+serialize_vec_tuple3_string_note_option_string-returns-in-Ok-serialize_run_of_note-clause-goes_on g t c = (goes_both _ _ _ c.serialize_each_tuple3_string_note_option_string.ensures.goes_on c.serialize_run_of_note.ensures.goes_on)
 
-pub serialize_vec_tuple3_string_note_option_string-returns-in-Err-serialize_inner_slice-clause-goes_on : goal.serialize_vec_tuple3_string_note_option_string-returns-in-Err-serialize_inner_slice-clause-goes_on
-serialize_vec_tuple3_string_note_option_string-returns-in-Err-serialize_inner_slice-clause-goes_on g t c = (goes_both _ _ _ c.serialize_each_tuple3_string_note_option_string.ensures.goes_on c.serialize_inner_slice.ensures.goes_on)
+pub serialize_vec_tuple3_string_note_option_string-returns-in-Err-serialize_run_of_note-clause-goes_on : goal.serialize_vec_tuple3_string_note_option_string-returns-in-Err-serialize_run_of_note-clause-goes_on
+serialize_vec_tuple3_string_note_option_string-returns-in-Err-serialize_run_of_note-clause-goes_on g t c = (goes_both _ _ _ c.serialize_each_tuple3_string_note_option_string.ensures.goes_on c.serialize_run_of_note.ensures.goes_on)
 
-pub serialize_vec_tuple3_string_note_option_string-returns-in-Err-serialize_inner_slice-clause-refused : goal.serialize_vec_tuple3_string_note_option_string-returns-in-Err-serialize_inner_slice-clause-refused
-serialize_vec_tuple3_string_note_option_string-returns-in-Err-serialize_inner_slice-clause-refused g t c = (rw c.as_slice-items.ensures.value at c.in-Err-serialize_inner_slice.ensures.refused).since _ c.serialize_each_tuple3_string_note_option_string.ensures.goes_on (rw c.as_slice-items.ensures.value at c.in-Ok.ensures.serialized)
+pub serialize_vec_tuple3_string_note_option_string-returns-in-Err-serialize_run_of_note-clause-refused : goal.serialize_vec_tuple3_string_note_option_string-returns-in-Err-serialize_run_of_note-clause-refused
+serialize_vec_tuple3_string_note_option_string-returns-in-Err-serialize_run_of_note-clause-refused g t c = (rw c.as_slice-items.ensures.value at c.in-Err-serialize_run_of_note.ensures.refused).since _ c.serialize_each_tuple3_string_note_option_string.ensures.goes_on (rw c.as_slice-items.ensures.value at c.in-Ok.ensures.serialized)
 
 pub serialize_note_table-returns-in-Err-clause-refused : goal.serialize_note_table-returns-in-Err-clause-refused
 serialize_note_table-returns-in-Err-clause-refused g t c = (variant_refused note_definitions note_shape note_name note_variant_definitions note_variants note_has_variants 2 note_table_parts refl note_table_definitions refl _ _ _ _ _ (first_refused tuple3_string_note_option_string_definitions no_definition (vec tuple3_string_note_option_string_shape) no_part (each_keys (λ y. ([] ++ ((note_keys y.1) ++ ((option_keys (λ y. []) y.2) ++ [])))) c.args.a0.now.items) [] (list (each_meaning (λ y. (product (value (text_value (string_bytes y.0)) (value (note_meaning y.1) (value (option_meaning (λ y. (text_value (string_bytes y))) y.2) no_value))))) c.args.a0.now.items)) no_value _ _ _ no_part_planned c.in-Err.ensures.refused))
@@ -95,29 +89,29 @@ serialize_note_table-returns-in-Err-clause-refused g t c = (variant_refused note
 pub serialize_note_table-returns-clause-serialized : goal.serialize_note_table-returns-clause-serialized
 serialize_note_table-returns-clause-serialized g t c = (serialized_variant note_definitions note_shape note_name note_variant_definitions note_variants note_has_variants 2 note_table_parts refl note_table_definitions refl _ _ _ _ _ (serialized_part tuple3_string_note_option_string_definitions no_definition (vec tuple3_string_note_option_string_shape) no_part (each_keys (λ y. ([] ++ ((note_keys y.1) ++ ((option_keys (λ y. []) y.2) ++ [])))) c.args.a0.now.items) [] (list (each_meaning (λ y. (product (value (text_value (string_bytes y.0)) (value (note_meaning y.1) (value (option_meaning (λ y. (text_value (string_bytes y))) y.2) no_value))))) c.args.a0.now.items)) no_value _ _ _ _ _ c.in-Ok.ensures.serialized (serialized_no_part no_definition _)))
 
-pub serialize_note-returns-in-Ok-clause-serialized : goal.serialize_note-returns-in-Ok-clause-serialized
-serialize_note-returns-in-Ok-clause-serialized g t c = rw c.in-Text.is (written_as (note_text_has_keys c.in-Text.a0) (note_text_means c.in-Text.a0) (rw (note_text_opens c.in-Text.a0) refl) c.in-Ok.ensures.serialized)
+pub serialize_whole_note-returns-in-Ok-clause-serialized : goal.serialize_whole_note-returns-in-Ok-clause-serialized
+serialize_whole_note-returns-in-Ok-clause-serialized g t c = rw c.in-Text.is (written_as (note_text_has_keys c.in-Text.a0) (note_text_means c.in-Text.a0) (rw (note_text_opens c.in-Text.a0) refl) c.in-Ok.ensures.serialized)
 
-pub serialize_note-returns-in-Ok-clause-same_value : goal.serialize_note-returns-in-Ok-clause-same_value
-serialize_note-returns-in-Ok-clause-same_value g t c = rw (c.in-Text.is, note_text_opens c.in-Text.a0) c.in-Ok.ensures.same_values
+pub serialize_whole_note-returns-in-Ok-clause-same_value : goal.serialize_whole_note-returns-in-Ok-clause-same_value
+serialize_whole_note-returns-in-Ok-clause-same_value g t c = rw (c.in-Text.is, note_text_opens c.in-Text.a0) c.in-Ok.ensures.same_values
 
-pub serialize_note-returns-in-Err-clause-refused : goal.serialize_note-returns-in-Err-clause-refused
-serialize_note-returns-in-Err-clause-refused g t c = rw c.in-Text.is (refused_as (note_text_has_keys c.in-Text.a0) (note_text_means c.in-Text.a0) c.in-Err.ensures.refused)
+pub serialize_whole_note-returns-in-Err-clause-refused : goal.serialize_whole_note-returns-in-Err-clause-refused
+serialize_whole_note-returns-in-Err-clause-refused g t c = rw c.in-Text.is (refused_as (note_text_has_keys c.in-Text.a0) (note_text_means c.in-Text.a0) c.in-Err.ensures.refused)
 
-pub serialize_note-returns-in-Ok-serialize_note_work-clause-serialized : goal.serialize_note-returns-in-Ok-serialize_note_work-clause-serialized
-serialize_note-returns-in-Ok-serialize_note_work-clause-serialized g t c = rw c.in-Work.is (written_as (note_work_has_keys c.in-Work.a0) (note_work_means c.in-Work.a0) (rw (note_work_opens c.in-Work.a0) refl) c.in-Ok-serialize_note_work.ensures.serialized)
+pub serialize_whole_note-returns-in-Ok-serialize_note_work-clause-serialized : goal.serialize_whole_note-returns-in-Ok-serialize_note_work-clause-serialized
+serialize_whole_note-returns-in-Ok-serialize_note_work-clause-serialized g t c = rw c.in-Work.is (written_as (note_work_has_keys c.in-Work.a0) (note_work_means c.in-Work.a0) (rw (note_work_opens c.in-Work.a0) refl) c.in-Ok-serialize_note_work.ensures.serialized)
 
-pub serialize_note-returns-in-Ok-serialize_note_work-clause-same_value : goal.serialize_note-returns-in-Ok-serialize_note_work-clause-same_value
-serialize_note-returns-in-Ok-serialize_note_work-clause-same_value g t c = rw (c.in-Work.is, note_work_opens c.in-Work.a0) c.in-Ok-serialize_note_work.ensures.same_values
+pub serialize_whole_note-returns-in-Ok-serialize_note_work-clause-same_value : goal.serialize_whole_note-returns-in-Ok-serialize_note_work-clause-same_value
+serialize_whole_note-returns-in-Ok-serialize_note_work-clause-same_value g t c = rw (c.in-Work.is, note_work_opens c.in-Work.a0) c.in-Ok-serialize_note_work.ensures.same_values
 
-pub serialize_note-returns-in-Err-serialize_note_work-clause-refused : goal.serialize_note-returns-in-Err-serialize_note_work-clause-refused
-serialize_note-returns-in-Err-serialize_note_work-clause-refused g t c = rw c.in-Work.is (refused_as (note_work_has_keys c.in-Work.a0) (note_work_means c.in-Work.a0) c.in-Err-serialize_note_work.ensures.refused)
+pub serialize_whole_note-returns-in-Err-serialize_note_work-clause-refused : goal.serialize_whole_note-returns-in-Err-serialize_note_work-clause-refused
+serialize_whole_note-returns-in-Err-serialize_note_work-clause-refused g t c = rw c.in-Work.is (refused_as (note_work_has_keys c.in-Work.a0) (note_work_means c.in-Work.a0) c.in-Err-serialize_note_work.ensures.refused)
 
-pub serialize_note-returns-in-Ok-serialize_note_table-clause-serialized : goal.serialize_note-returns-in-Ok-serialize_note_table-clause-serialized
-serialize_note-returns-in-Ok-serialize_note_table-clause-serialized g t c = rw c.in-Table.is (written_as (note_table_has_keys c.in-Table.a0) (note_table_means c.in-Table.a0) (rw (note_table_opens c.in-Table.a0) refl) c.in-Ok-serialize_note_table.ensures.serialized)
+pub serialize_whole_note-returns-in-Ok-serialize_note_table-clause-serialized : goal.serialize_whole_note-returns-in-Ok-serialize_note_table-clause-serialized
+serialize_whole_note-returns-in-Ok-serialize_note_table-clause-serialized g t c = rw c.in-Table.is (written_as (note_table_has_keys c.in-Table.a0) (note_table_means c.in-Table.a0) (rw (note_table_opens c.in-Table.a0) refl) c.in-Ok-serialize_note_table.ensures.serialized)
 
-pub serialize_note-returns-in-Ok-serialize_note_table-clause-same_value : goal.serialize_note-returns-in-Ok-serialize_note_table-clause-same_value
-serialize_note-returns-in-Ok-serialize_note_table-clause-same_value g t c = rw (c.in-Table.is, note_table_opens c.in-Table.a0) c.in-Ok-serialize_note_table.ensures.same_values
+pub serialize_whole_note-returns-in-Ok-serialize_note_table-clause-same_value : goal.serialize_whole_note-returns-in-Ok-serialize_note_table-clause-same_value
+serialize_whole_note-returns-in-Ok-serialize_note_table-clause-same_value g t c = rw (c.in-Table.is, note_table_opens c.in-Table.a0) c.in-Ok-serialize_note_table.ensures.same_values
 
-pub serialize_note-returns-in-Err-serialize_note_table-clause-refused : goal.serialize_note-returns-in-Err-serialize_note_table-clause-refused
-serialize_note-returns-in-Err-serialize_note_table-clause-refused g t c = rw c.in-Table.is (refused_as (note_table_has_keys c.in-Table.a0) (note_table_means c.in-Table.a0) c.in-Err-serialize_note_table.ensures.refused)
+pub serialize_whole_note-returns-in-Err-serialize_note_table-clause-refused : goal.serialize_whole_note-returns-in-Err-serialize_note_table-clause-refused
+serialize_whole_note-returns-in-Err-serialize_note_table-clause-refused g t c = rw c.in-Table.is (refused_as (note_table_has_keys c.in-Table.a0) (note_table_means c.in-Table.a0) c.in-Err-serialize_note_table.ensures.refused)

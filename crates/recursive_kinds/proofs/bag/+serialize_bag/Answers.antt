@@ -34,17 +34,17 @@ serialize_option_box_bag-returns-in-None-clause-serialized g t c = rw c.in-None.
 pub serialize_option_box_bag-returns-in-Err-clause-refused : goal.serialize_option_box_bag-returns-in-Err-clause-refused
 serialize_option_box_bag-returns-in-Err-clause-refused g t c = rw c.handed_on.ensures (let same : c.deref-inner.result.now ≡ c.in-Some.whole.value = grind (arith, common_steps) in rw (c.in-Some.is, ← same) (case_refused bag_definitions bag_definitions (λ s k. k) _ _ 1 (boxed (one bag_shape)) refl _ _ _ _ _ (box_refused bag_definitions (one bag_shape) 0 _ _ _ _ _ (one_owned bag_definitions bag_shape _ _ _ _ _ c.in-Err.ensures.refused))))
 
-pub serialize_option_box_bag-returns-in-Ok-serialize_inner-clause-serialized : goal.serialize_option_box_bag-returns-in-Ok-serialize_inner-clause-serialized
-serialize_option_box_bag-returns-in-Ok-serialize_inner-clause-serialized g t c = (let same : c.deref-inner.result.now ≡ c.in-Some.whole.value = grind (arith, common_steps) in rw (c.in-Some.is, ← same) (serialized_case bag_definitions bag_definitions (λ s k. k) _ _ 1 (boxed (one bag_shape)) refl _ _ _ _ _ (c.in-Ok-serialize_inner.ensures.boxed.since _ c.serialize_bag.ensures.goes_on c.in-Ok.ensures.serialized)))
+pub serialize_option_box_bag-returns-in-Ok-serialize_region_of_bag-clause-serialized : goal.serialize_option_box_bag-returns-in-Ok-serialize_region_of_bag-clause-serialized
+serialize_option_box_bag-returns-in-Ok-serialize_region_of_bag-clause-serialized g t c = (let same : c.deref-inner.result.now ≡ c.in-Some.whole.value = grind (arith, common_steps) in rw (c.in-Some.is, ← same) (serialized_case bag_definitions bag_definitions (λ s k. k) _ _ 1 (boxed (one bag_shape)) refl _ _ _ _ _ (c.in-Ok-serialize_region_of_bag.ensures.boxed.since _ c.serialize_bag.ensures.goes_on c.in-Ok.ensures.serialized)))
 
-pub serialize_option_box_bag-returns-in-Ok-serialize_inner-clause-goes_on : goal.serialize_option_box_bag-returns-in-Ok-serialize_inner-clause-goes_on
-serialize_option_box_bag-returns-in-Ok-serialize_inner-clause-goes_on g t c = (goes_both _ _ _ c.serialize_bag.ensures.goes_on c.serialize_inner.ensures.goes_on)
+pub serialize_option_box_bag-returns-in-Ok-serialize_region_of_bag-clause-goes_on : goal.serialize_option_box_bag-returns-in-Ok-serialize_region_of_bag-clause-goes_on
+serialize_option_box_bag-returns-in-Ok-serialize_region_of_bag-clause-goes_on g t c = (goes_both _ _ _ c.serialize_bag.ensures.goes_on c.serialize_region_of_bag.ensures.goes_on)
 
-pub serialize_option_box_bag-returns-in-Err-serialize_inner-clause-goes_on : goal.serialize_option_box_bag-returns-in-Err-serialize_inner-clause-goes_on
-serialize_option_box_bag-returns-in-Err-serialize_inner-clause-goes_on g t c = (goes_both _ _ _ c.serialize_bag.ensures.goes_on c.serialize_inner.ensures.goes_on)
+pub serialize_option_box_bag-returns-in-Err-serialize_region_of_bag-clause-goes_on : goal.serialize_option_box_bag-returns-in-Err-serialize_region_of_bag-clause-goes_on
+serialize_option_box_bag-returns-in-Err-serialize_region_of_bag-clause-goes_on g t c = (goes_both _ _ _ c.serialize_bag.ensures.goes_on c.serialize_region_of_bag.ensures.goes_on)
 
-pub serialize_option_box_bag-returns-in-Err-serialize_inner-clause-refused : goal.serialize_option_box_bag-returns-in-Err-serialize_inner-clause-refused
-serialize_option_box_bag-returns-in-Err-serialize_inner-clause-refused g t c = (let same : c.deref-inner.result.now ≡ c.in-Some.whole.value = grind (arith, common_steps) in rw (c.in-Some.is, ← same) (case_refused bag_definitions bag_definitions (λ s k. k) _ _ 1 (boxed (one bag_shape)) refl _ _ _ _ _ (c.in-Err-serialize_inner.ensures.refused.since _ c.serialize_bag.ensures.goes_on c.in-Ok.ensures.serialized)))
+pub serialize_option_box_bag-returns-in-Err-serialize_region_of_bag-clause-refused : goal.serialize_option_box_bag-returns-in-Err-serialize_region_of_bag-clause-refused
+serialize_option_box_bag-returns-in-Err-serialize_region_of_bag-clause-refused g t c = (let same : c.deref-inner.result.now ≡ c.in-Some.whole.value = grind (arith, common_steps) in rw (c.in-Some.is, ← same) (case_refused bag_definitions bag_definitions (λ s k. k) _ _ 1 (boxed (one bag_shape)) refl _ _ _ _ _ (c.in-Err-serialize_region_of_bag.ensures.refused.since _ c.serialize_bag.ensures.goes_on c.in-Ok.ensures.serialized)))
 
 pub serialize_each_bag-returns-in_err-resolvers-clause-refused : goal.serialize_each_bag-returns-in_err-resolvers-clause-refused
 serialize_each_bag-returns-in_err-resolvers-clause-refused g t c = err_by c.from_residual.result OutOfMemory _ c.from_residual.ensures.1 no_memory
@@ -58,14 +58,8 @@ serialize_each_bag-returns-in-Err-clause-refused g t c = rw c.handed_on.ensures 
 pub serialize_each_bag-returns-in_err-resolvers-clause-goes_on : goal.serialize_each_bag-returns-in_err-resolvers-clause-goes_on
 serialize_each_bag-returns-in_err-resolvers-clause-goes_on g t c = goes_nowhere _
 
-pub serialize_each_bag-returns-in_err-map_err-clause-goes_on : goal.serialize_each_bag-returns-in_err-map_err-clause-goes_on
-serialize_each_bag-returns-in_err-map_err-clause-goes_on g t c = goes_both _ _ _ c.loop-value.invariant.continues.goes c.serialize_bag.ensures.goes_on
-
-pub serialize_each_bag-returns-in_err-map_err-clause-refused : goal.serialize_each_bag-returns-in_err-map_err-clause-refused
-serialize_each_bag-returns-in_err-map_err-clause-refused g t c = err_by c.from_residual-in_err-map_err.result OutOfMemory _ c.from_residual-in_err-map_err.ensures.1 no_memory
-
 pub serialize_each_bag-loop-value-preserved : goal.serialize_each_bag-loop-value-preserved
-serialize_each_bag-loop-value-preserved g t c = record { continues = continues_step _ _ _ _ _ _ _ _ _ _ c.loop-value.value-index _ _ _ _ c.loop-value-test.true c.value-item.is (grind (arith, common_steps)) c.loop-value.invariant.continues c.in-Ok.ensures.serialized c.in-Ok.ensures.same_value c.serialize_bag.ensures.goes_on }
+serialize_each_bag-loop-value-preserved g t c = record { continues = continues_step _ _ _ _ _ _ _ _ _ _ c.loop-value.value-index _ _ _ _ c.loop-value-test.true c.value-item.is (grind (arith, common_steps)) c.loop-value.invariant.continues c.in-Ok.ensures.serialized c.in-Ok.ensures.same_value c.serialize_bag.ensures.goes_on; reserved = (grind (arith, common_steps, c.loop-value.invariant.reserved.0), grind (arith, common_steps, c.loop-value.invariant.reserved.1)) }
 
 pub serialize_each_bag-returns-clause-serialized : goal.serialize_each_bag-returns-clause-serialized
 serialize_each_bag-returns-clause-serialized g t c = continues_end _ _ _ _ _ _ _ _ _ _ _ (drop_of_length-le _ c.loop-value-test.false) c.loop-value.invariant.continues
@@ -97,17 +91,17 @@ serialize_shared_slice_bag-returns-in-Ok-finish_shared_slice-clause-serialized g
 pub serialize_shared_slice_bag-returns-in-Ok-finish_shared_slice-clause-goes_on : goal.serialize_shared_slice_bag-returns-in-Ok-finish_shared_slice-clause-goes_on
 serialize_shared_slice_bag-returns-in-Ok-finish_shared_slice-clause-goes_on g t c = (c.finish_shared_slice.ensures.goes_on.since _ _ (rw c.in-None.is at c.in-Ok.ensures.begun) c.serialize_each_bag.ensures.goes_on)
 
-pub serialize_bag-returns-in-Err-clause-refused : goal.serialize_bag-returns-in-Err-clause-refused
-serialize_bag-returns-in-Err-clause-refused g t c = (refused_as (bag_has_keys c.args.value.now) (bag_means c.args.value.now) (record_refused bag_definitions bag_shape bag_part_definitions bag_parts bag_has_parts _ _ _ _ _ (first_refused bag_definitions (both bag_definitions no_definition) (option_shape (boxed (one bag_shape))) (part (shared rc_flavor (run bag_shape)) no_part) (option_keys (λ y. (bag_keys y.value)) (out-Bag c.args.value.now).top) ((rc_keys (out-Bag c.args.value.now).inside.key (run bag_shape) (length (out-Bag c.args.value.now).inside.value.items.value.items) (list (each_meaning bag_meaning (out-Bag c.args.value.now).inside.value.items.value.items)) (each_keys bag_keys (out-Bag c.args.value.now).inside.value.items.value.items)) ++ []) (option_meaning (λ y. (box (bag_meaning y.value))) (out-Bag c.args.value.now).top) (value (shared_value (out-Bag c.args.value.now).inside.key) no_value) _ _ _ (part_planned bag_definitions (shared rc_flavor (run bag_shape)) (rc_keys (out-Bag c.args.value.now).inside.key (run bag_shape) (length (out-Bag c.args.value.now).inside.value.items.value.items) (list (each_meaning bag_meaning (out-Bag c.args.value.now).inside.value.items.value.items)) (each_keys bag_keys (out-Bag c.args.value.now).inside.value.items.value.items)) (shared_value (out-Bag c.args.value.now).inside.key) (rc_planned bag_definitions (out-Bag c.args.value.now).inside.key (run bag_shape) _ _ _ (slice_planned bag_definitions bag_shape bag_keys bag_meaning bag_planned (out-Bag c.args.value.now).inside.value.items.value.items)) no_part_planned) c.in-Err.ensures.refused)))
+pub serialize_whole_bag-returns-in-Err-clause-refused : goal.serialize_whole_bag-returns-in-Err-clause-refused
+serialize_whole_bag-returns-in-Err-clause-refused g t c = rw c.handed_on.ensures (refused_as (bag_has_keys c.args.value.now) (bag_means c.args.value.now) (record_refused bag_definitions bag_shape bag_part_definitions bag_parts bag_has_parts _ _ _ _ _ (first_refused bag_definitions (both bag_definitions no_definition) (option_shape (boxed (one bag_shape))) (part (shared rc_flavor (run bag_shape)) no_part) (option_keys (λ y. (bag_keys y.value)) (out-Bag c.args.value.now).top) ((rc_keys (out-Bag c.args.value.now).inside.key (run bag_shape) (length (out-Bag c.args.value.now).inside.value.items.value.items) (list (each_meaning bag_meaning (out-Bag c.args.value.now).inside.value.items.value.items)) (each_keys bag_keys (out-Bag c.args.value.now).inside.value.items.value.items)) ++ []) (option_meaning (λ y. (box (bag_meaning y.value))) (out-Bag c.args.value.now).top) (value (shared_value (out-Bag c.args.value.now).inside.key) no_value) _ _ _ (part_planned bag_definitions (shared rc_flavor (run bag_shape)) (rc_keys (out-Bag c.args.value.now).inside.key (run bag_shape) (length (out-Bag c.args.value.now).inside.value.items.value.items) (list (each_meaning bag_meaning (out-Bag c.args.value.now).inside.value.items.value.items)) (each_keys bag_keys (out-Bag c.args.value.now).inside.value.items.value.items)) (shared_value (out-Bag c.args.value.now).inside.key) (rc_planned bag_definitions (out-Bag c.args.value.now).inside.key (run bag_shape) _ _ _ (slice_planned bag_definitions bag_shape bag_keys bag_meaning bag_planned (out-Bag c.args.value.now).inside.value.items.value.items)) no_part_planned) c.in-Err.ensures.refused)))
 
-pub serialize_bag-returns-in-Err-serialize_shared_slice_bag-clause-refused : goal.serialize_bag-returns-in-Err-serialize_shared_slice_bag-clause-refused
-serialize_bag-returns-in-Err-serialize_shared_slice_bag-clause-refused g t c = (refused_as (bag_has_keys c.args.value.now) (bag_means c.args.value.now) (record_refused bag_definitions bag_shape bag_part_definitions bag_parts bag_has_parts _ _ _ _ _ (later_refused bag_definitions (both bag_definitions no_definition) (option_shape (boxed (one bag_shape))) (part (shared rc_flavor (run bag_shape)) no_part) (option_keys (λ y. (bag_keys y.value)) (out-Bag c.args.value.now).top) ((rc_keys (out-Bag c.args.value.now).inside.key (run bag_shape) (length (out-Bag c.args.value.now).inside.value.items.value.items) (list (each_meaning bag_meaning (out-Bag c.args.value.now).inside.value.items.value.items)) (each_keys bag_keys (out-Bag c.args.value.now).inside.value.items.value.items)) ++ []) (option_meaning (λ y. (box (bag_meaning y.value))) (out-Bag c.args.value.now).top) (value (shared_value (out-Bag c.args.value.now).inside.key) no_value) _ _ _ _ _ c.in-Ok.ensures.serialized c.serialize_option_box_bag.ensures.goes_on c.serialize_shared_slice_bag.ensures.goes_on (first_refused bag_definitions no_definition (shared rc_flavor (run bag_shape)) no_part (rc_keys (out-Bag c.args.value.now).inside.key (run bag_shape) (length (out-Bag c.args.value.now).inside.value.items.value.items) (list (each_meaning bag_meaning (out-Bag c.args.value.now).inside.value.items.value.items)) (each_keys bag_keys (out-Bag c.args.value.now).inside.value.items.value.items)) [] (shared_value (out-Bag c.args.value.now).inside.key) no_value _ _ _ no_part_planned (rw c.as_slice-items.ensures.value at c.in-Err-serialize_shared_slice_bag.ensures.refused)))))
+pub serialize_whole_bag-returns-in-Err-serialize_shared_slice_bag-clause-refused : goal.serialize_whole_bag-returns-in-Err-serialize_shared_slice_bag-clause-refused
+serialize_whole_bag-returns-in-Err-serialize_shared_slice_bag-clause-refused g t c = (refused_as (bag_has_keys c.args.value.now) (bag_means c.args.value.now) (record_refused bag_definitions bag_shape bag_part_definitions bag_parts bag_has_parts _ _ _ _ _ (later_refused bag_definitions (both bag_definitions no_definition) (option_shape (boxed (one bag_shape))) (part (shared rc_flavor (run bag_shape)) no_part) (option_keys (λ y. (bag_keys y.value)) (out-Bag c.args.value.now).top) ((rc_keys (out-Bag c.args.value.now).inside.key (run bag_shape) (length (out-Bag c.args.value.now).inside.value.items.value.items) (list (each_meaning bag_meaning (out-Bag c.args.value.now).inside.value.items.value.items)) (each_keys bag_keys (out-Bag c.args.value.now).inside.value.items.value.items)) ++ []) (option_meaning (λ y. (box (bag_meaning y.value))) (out-Bag c.args.value.now).top) (value (shared_value (out-Bag c.args.value.now).inside.key) no_value) _ _ _ _ _ c.in-Ok.ensures.serialized c.serialize_option_box_bag.ensures.goes_on c.serialize_shared_slice_bag.ensures.goes_on (first_refused bag_definitions no_definition (shared rc_flavor (run bag_shape)) no_part (rc_keys (out-Bag c.args.value.now).inside.key (run bag_shape) (length (out-Bag c.args.value.now).inside.value.items.value.items) (list (each_meaning bag_meaning (out-Bag c.args.value.now).inside.value.items.value.items)) (each_keys bag_keys (out-Bag c.args.value.now).inside.value.items.value.items)) [] (shared_value (out-Bag c.args.value.now).inside.key) no_value _ _ _ no_part_planned (rw c.as_slice-items.ensures.value at c.in-Err-serialize_shared_slice_bag.ensures.refused)))))
 
-pub serialize_bag-returns-in-Err-serialize_shared_slice_bag-clause-goes_on : goal.serialize_bag-returns-in-Err-serialize_shared_slice_bag-clause-goes_on
-serialize_bag-returns-in-Err-serialize_shared_slice_bag-clause-goes_on g t c = (goes_both _ _ _ c.serialize_option_box_bag.ensures.goes_on c.serialize_shared_slice_bag.ensures.goes_on)
+pub serialize_whole_bag-returns-in-Err-serialize_shared_slice_bag-clause-goes_on : goal.serialize_whole_bag-returns-in-Err-serialize_shared_slice_bag-clause-goes_on
+serialize_whole_bag-returns-in-Err-serialize_shared_slice_bag-clause-goes_on g t c = (goes_both _ _ _ c.serialize_option_box_bag.ensures.goes_on c.serialize_shared_slice_bag.ensures.goes_on)
 
-pub serialize_bag-returns-clause-serialized : goal.serialize_bag-returns-clause-serialized
-serialize_bag-returns-clause-serialized g t c = (written_as (bag_has_keys c.args.value.now) (bag_means c.args.value.now) refl (serialized_record bag_definitions bag_shape bag_part_definitions bag_parts bag_has_parts _ _ _ _ _ (serialized_part bag_definitions (both bag_definitions no_definition) (option_shape (boxed (one bag_shape))) (part (shared rc_flavor (run bag_shape)) no_part) (option_keys (λ y. (bag_keys y.value)) (out-Bag c.args.value.now).top) ((rc_keys (out-Bag c.args.value.now).inside.key (run bag_shape) (length (out-Bag c.args.value.now).inside.value.items.value.items) (list (each_meaning bag_meaning (out-Bag c.args.value.now).inside.value.items.value.items)) (each_keys bag_keys (out-Bag c.args.value.now).inside.value.items.value.items)) ++ []) (option_meaning (λ y. (box (bag_meaning y.value))) (out-Bag c.args.value.now).top) (value (shared_value (out-Bag c.args.value.now).inside.key) no_value) _ _ _ _ _ c.in-Ok.ensures.serialized (serialized_part bag_definitions no_definition (shared rc_flavor (run bag_shape)) no_part (rc_keys (out-Bag c.args.value.now).inside.key (run bag_shape) (length (out-Bag c.args.value.now).inside.value.items.value.items) (list (each_meaning bag_meaning (out-Bag c.args.value.now).inside.value.items.value.items)) (each_keys bag_keys (out-Bag c.args.value.now).inside.value.items.value.items)) [] (shared_value (out-Bag c.args.value.now).inside.key) no_value _ _ _ _ _ (rw c.as_slice-items.ensures.value at c.in-Ok-serialize_shared_slice_bag.ensures.serialized) (serialized_no_part no_definition _)))))
+pub serialize_whole_bag-returns-clause-serialized : goal.serialize_whole_bag-returns-clause-serialized
+serialize_whole_bag-returns-clause-serialized g t c = (written_as (bag_has_keys c.args.value.now) (bag_means c.args.value.now) refl (serialized_record bag_definitions bag_shape bag_part_definitions bag_parts bag_has_parts _ _ _ _ _ (serialized_part bag_definitions (both bag_definitions no_definition) (option_shape (boxed (one bag_shape))) (part (shared rc_flavor (run bag_shape)) no_part) (option_keys (λ y. (bag_keys y.value)) (out-Bag c.args.value.now).top) ((rc_keys (out-Bag c.args.value.now).inside.key (run bag_shape) (length (out-Bag c.args.value.now).inside.value.items.value.items) (list (each_meaning bag_meaning (out-Bag c.args.value.now).inside.value.items.value.items)) (each_keys bag_keys (out-Bag c.args.value.now).inside.value.items.value.items)) ++ []) (option_meaning (λ y. (box (bag_meaning y.value))) (out-Bag c.args.value.now).top) (value (shared_value (out-Bag c.args.value.now).inside.key) no_value) _ _ _ _ _ c.in-Ok.ensures.serialized (serialized_part bag_definitions no_definition (shared rc_flavor (run bag_shape)) no_part (rc_keys (out-Bag c.args.value.now).inside.key (run bag_shape) (length (out-Bag c.args.value.now).inside.value.items.value.items) (list (each_meaning bag_meaning (out-Bag c.args.value.now).inside.value.items.value.items)) (each_keys bag_keys (out-Bag c.args.value.now).inside.value.items.value.items)) [] (shared_value (out-Bag c.args.value.now).inside.key) no_value _ _ _ _ _ (rw c.as_slice-items.ensures.value at c.in-Ok-serialize_shared_slice_bag.ensures.serialized) (serialized_no_part no_definition _)))))
 
-pub serialize_bag-returns-clause-goes_on : goal.serialize_bag-returns-clause-goes_on
-serialize_bag-returns-clause-goes_on g t c = (goes_both _ _ _ c.serialize_option_box_bag.ensures.goes_on c.serialize_shared_slice_bag.ensures.goes_on)
+pub serialize_whole_bag-returns-clause-goes_on : goal.serialize_whole_bag-returns-clause-goes_on
+serialize_whole_bag-returns-clause-goes_on g t c = (goes_both _ _ _ c.serialize_option_box_bag.ensures.goes_on c.serialize_shared_slice_bag.ensures.goes_on)

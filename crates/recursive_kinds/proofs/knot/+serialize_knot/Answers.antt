@@ -78,29 +78,29 @@ serialize_vec_shared_knot-returns-then-len-clause-refused g t c = (let long : 42
 pub serialize_vec_shared_knot-returns-in-Err-clause-refused : goal.serialize_vec_shared_knot-returns-in-Err-clause-refused
 serialize_vec_shared_knot-returns-in-Err-clause-refused g t c = vec_refused knot_definitions (shared rc_flavor (one knot_shape)) (length c.args.value.now.items) (each_keys (λ y. (rc_keys y.key (one knot_shape) 0 (knot_meaning y.value.value) (knot_keys y.value.value))) c.args.value.now.items) (list (each_meaning (λ y. (shared_value y.key)) c.args.value.now.items)) _ _ _ (run_owned knot_definitions (shared rc_flavor (one knot_shape)) (length c.args.value.now.items) (each_keys (λ y. (rc_keys y.key (one knot_shape) 0 (knot_meaning y.value.value) (knot_keys y.value.value))) c.args.value.now.items) (each_meaning (λ y. (shared_value y.key)) c.args.value.now.items) _ _ _ (rw c.as_slice-items.ensures.value at c.in-Err.ensures.refused))
 
-pub serialize_vec_shared_knot-returns-in-Ok-serialize_inner_slice-clause-serialized : goal.serialize_vec_shared_knot-returns-in-Ok-serialize_inner_slice-clause-serialized
-serialize_vec_shared_knot-returns-in-Ok-serialize_inner_slice-clause-serialized g t c = (rw c.as_slice-items.ensures.value at c.in-Ok-serialize_inner_slice.ensures.listed).since _ c.serialize_each_shared_knot.ensures.goes_on (rw c.as_slice-items.ensures.value at c.in-Ok.ensures.serialized)
+pub serialize_vec_shared_knot-returns-in-Ok-serialize_run_of_knot-clause-serialized : goal.serialize_vec_shared_knot-returns-in-Ok-serialize_run_of_knot-clause-serialized
+serialize_vec_shared_knot-returns-in-Ok-serialize_run_of_knot-clause-serialized g t c = (rw c.as_slice-items.ensures.value at c.in-Ok-serialize_run_of_knot.ensures.listed).since _ c.serialize_each_shared_knot.ensures.goes_on (rw c.as_slice-items.ensures.value at c.in-Ok.ensures.serialized)
 
-pub serialize_vec_shared_knot-returns-in-Ok-serialize_inner_slice-clause-goes_on : goal.serialize_vec_shared_knot-returns-in-Ok-serialize_inner_slice-clause-goes_on
-serialize_vec_shared_knot-returns-in-Ok-serialize_inner_slice-clause-goes_on g t c = (goes_both _ _ _ c.serialize_each_shared_knot.ensures.goes_on c.serialize_inner_slice.ensures.goes_on)
+pub serialize_vec_shared_knot-returns-in-Ok-serialize_run_of_knot-clause-goes_on : goal.serialize_vec_shared_knot-returns-in-Ok-serialize_run_of_knot-clause-goes_on
+serialize_vec_shared_knot-returns-in-Ok-serialize_run_of_knot-clause-goes_on g t c = (goes_both _ _ _ c.serialize_each_shared_knot.ensures.goes_on c.serialize_run_of_knot.ensures.goes_on)
 
-pub serialize_vec_shared_knot-returns-in-Err-serialize_inner_slice-clause-goes_on : goal.serialize_vec_shared_knot-returns-in-Err-serialize_inner_slice-clause-goes_on
-serialize_vec_shared_knot-returns-in-Err-serialize_inner_slice-clause-goes_on g t c = (goes_both _ _ _ c.serialize_each_shared_knot.ensures.goes_on c.serialize_inner_slice.ensures.goes_on)
+pub serialize_vec_shared_knot-returns-in-Err-serialize_run_of_knot-clause-goes_on : goal.serialize_vec_shared_knot-returns-in-Err-serialize_run_of_knot-clause-goes_on
+serialize_vec_shared_knot-returns-in-Err-serialize_run_of_knot-clause-goes_on g t c = (goes_both _ _ _ c.serialize_each_shared_knot.ensures.goes_on c.serialize_run_of_knot.ensures.goes_on)
 
-pub serialize_vec_shared_knot-returns-in-Err-serialize_inner_slice-clause-refused : goal.serialize_vec_shared_knot-returns-in-Err-serialize_inner_slice-clause-refused
-serialize_vec_shared_knot-returns-in-Err-serialize_inner_slice-clause-refused g t c = (rw c.as_slice-items.ensures.value at c.in-Err-serialize_inner_slice.ensures.refused).since _ c.serialize_each_shared_knot.ensures.goes_on (rw c.as_slice-items.ensures.value at c.in-Ok.ensures.serialized)
+pub serialize_vec_shared_knot-returns-in-Err-serialize_run_of_knot-clause-refused : goal.serialize_vec_shared_knot-returns-in-Err-serialize_run_of_knot-clause-refused
+serialize_vec_shared_knot-returns-in-Err-serialize_run_of_knot-clause-refused g t c = (rw c.as_slice-items.ensures.value at c.in-Err-serialize_run_of_knot.ensures.refused).since _ c.serialize_each_shared_knot.ensures.goes_on (rw c.as_slice-items.ensures.value at c.in-Ok.ensures.serialized)
 
-pub serialize_knot-returns-in-Err-clause-refused : goal.serialize_knot-returns-in-Err-clause-refused
-serialize_knot-returns-in-Err-clause-refused g t c = (refused_as (knot_has_keys c.args.value.now) (knot_means c.args.value.now) (record_refused knot_definitions knot_shape knot_part_definitions knot_parts knot_has_parts _ _ _ _ _ (first_refused no_definition (both knot_definitions no_definition) (leaf (number_kind unsigned w32)) (part (vec (shared rc_flavor (one knot_shape))) no_part) [] ((each_keys (λ y. (rc_keys y.key (one knot_shape) 0 (knot_meaning y.value.value) (knot_keys y.value.value))) (out-Knot c.args.value.now).next.items) ++ []) (number (pos (out-Knot c.args.value.now).id)) (value (list (each_meaning (λ y. (shared_value y.key)) (out-Knot c.args.value.now).next.items)) no_value) _ _ _ (part_planned knot_definitions (vec (shared rc_flavor (one knot_shape))) (each_keys (λ y. (rc_keys y.key (one knot_shape) 0 (knot_meaning y.value.value) (knot_keys y.value.value))) (out-Knot c.args.value.now).next.items) (list (each_meaning (λ y. (shared_value y.key)) (out-Knot c.args.value.now).next.items)) (vec_planned knot_definitions (shared rc_flavor (one knot_shape)) _ _ _ (slice_planned knot_definitions (shared rc_flavor (one knot_shape)) (λ y. (rc_keys y.key (one knot_shape) 0 (knot_meaning y.value.value) (knot_keys y.value.value))) (λ y. (shared_value y.key)) (λ y. (rc_one_planned knot_definitions y.key (one knot_shape) knot_shape refl _ _ (knot_planned y.value.value))) (out-Knot c.args.value.now).next.items)) no_part_planned) c.in-Err.ensures.refused)))
+pub serialize_whole_knot-returns-in-Err-clause-refused : goal.serialize_whole_knot-returns-in-Err-clause-refused
+serialize_whole_knot-returns-in-Err-clause-refused g t c = (refused_as (knot_has_keys c.args.value.now) (knot_means c.args.value.now) (record_refused knot_definitions knot_shape knot_part_definitions knot_parts knot_has_parts _ _ _ _ _ (first_refused no_definition (both knot_definitions no_definition) (leaf (number_kind unsigned w32)) (part (vec (shared rc_flavor (one knot_shape))) no_part) [] ((each_keys (λ y. (rc_keys y.key (one knot_shape) 0 (knot_meaning y.value.value) (knot_keys y.value.value))) (out-Knot c.args.value.now).next.items) ++ []) (number (pos (out-Knot c.args.value.now).id)) (value (list (each_meaning (λ y. (shared_value y.key)) (out-Knot c.args.value.now).next.items)) no_value) _ _ _ (part_planned knot_definitions (vec (shared rc_flavor (one knot_shape))) (each_keys (λ y. (rc_keys y.key (one knot_shape) 0 (knot_meaning y.value.value) (knot_keys y.value.value))) (out-Knot c.args.value.now).next.items) (list (each_meaning (λ y. (shared_value y.key)) (out-Knot c.args.value.now).next.items)) (vec_planned knot_definitions (shared rc_flavor (one knot_shape)) _ _ _ (slice_planned knot_definitions (shared rc_flavor (one knot_shape)) (λ y. (rc_keys y.key (one knot_shape) 0 (knot_meaning y.value.value) (knot_keys y.value.value))) (λ y. (shared_value y.key)) (λ y. (rc_one_planned knot_definitions y.key (one knot_shape) knot_shape refl _ _ (knot_planned y.value.value))) (out-Knot c.args.value.now).next.items)) no_part_planned) c.in-Err.ensures.refused)))
 
-pub serialize_knot-returns-in-Err-serialize_vec_shared_knot-clause-refused : goal.serialize_knot-returns-in-Err-serialize_vec_shared_knot-clause-refused
-serialize_knot-returns-in-Err-serialize_vec_shared_knot-clause-refused g t c = (refused_as (knot_has_keys c.args.value.now) (knot_means c.args.value.now) (record_refused knot_definitions knot_shape knot_part_definitions knot_parts knot_has_parts _ _ _ _ _ (later_refused no_definition (both knot_definitions no_definition) (leaf (number_kind unsigned w32)) (part (vec (shared rc_flavor (one knot_shape))) no_part) [] ((each_keys (λ y. (rc_keys y.key (one knot_shape) 0 (knot_meaning y.value.value) (knot_keys y.value.value))) (out-Knot c.args.value.now).next.items) ++ []) (number (pos (out-Knot c.args.value.now).id)) (value (list (each_meaning (λ y. (shared_value y.key)) (out-Knot c.args.value.now).next.items)) no_value) _ _ _ _ _ c.in-Ok.ensures.serialized c.serialize_part.ensures.goes_on c.serialize_vec_shared_knot.ensures.goes_on (first_refused knot_definitions no_definition (vec (shared rc_flavor (one knot_shape))) no_part (each_keys (λ y. (rc_keys y.key (one knot_shape) 0 (knot_meaning y.value.value) (knot_keys y.value.value))) (out-Knot c.args.value.now).next.items) [] (list (each_meaning (λ y. (shared_value y.key)) (out-Knot c.args.value.now).next.items)) no_value _ _ _ no_part_planned c.in-Err-serialize_vec_shared_knot.ensures.refused))))
+pub serialize_whole_knot-returns-in-Err-serialize_vec_shared_knot-clause-refused : goal.serialize_whole_knot-returns-in-Err-serialize_vec_shared_knot-clause-refused
+serialize_whole_knot-returns-in-Err-serialize_vec_shared_knot-clause-refused g t c = rw c.handed_on.ensures (refused_as (knot_has_keys c.args.value.now) (knot_means c.args.value.now) (record_refused knot_definitions knot_shape knot_part_definitions knot_parts knot_has_parts _ _ _ _ _ (later_refused no_definition (both knot_definitions no_definition) (leaf (number_kind unsigned w32)) (part (vec (shared rc_flavor (one knot_shape))) no_part) [] ((each_keys (λ y. (rc_keys y.key (one knot_shape) 0 (knot_meaning y.value.value) (knot_keys y.value.value))) (out-Knot c.args.value.now).next.items) ++ []) (number (pos (out-Knot c.args.value.now).id)) (value (list (each_meaning (λ y. (shared_value y.key)) (out-Knot c.args.value.now).next.items)) no_value) _ _ _ _ _ c.in-Ok.ensures.serialized c.serialize_part.ensures.goes_on c.serialize_vec_shared_knot.ensures.goes_on (first_refused knot_definitions no_definition (vec (shared rc_flavor (one knot_shape))) no_part (each_keys (λ y. (rc_keys y.key (one knot_shape) 0 (knot_meaning y.value.value) (knot_keys y.value.value))) (out-Knot c.args.value.now).next.items) [] (list (each_meaning (λ y. (shared_value y.key)) (out-Knot c.args.value.now).next.items)) no_value _ _ _ no_part_planned c.in-Err-serialize_vec_shared_knot.ensures.refused))))
 
-pub serialize_knot-returns-in-Err-serialize_vec_shared_knot-clause-goes_on : goal.serialize_knot-returns-in-Err-serialize_vec_shared_knot-clause-goes_on
-serialize_knot-returns-in-Err-serialize_vec_shared_knot-clause-goes_on g t c = (goes_both _ _ _ c.serialize_part.ensures.goes_on c.serialize_vec_shared_knot.ensures.goes_on)
+pub serialize_whole_knot-returns-in-Err-serialize_vec_shared_knot-clause-goes_on : goal.serialize_whole_knot-returns-in-Err-serialize_vec_shared_knot-clause-goes_on
+serialize_whole_knot-returns-in-Err-serialize_vec_shared_knot-clause-goes_on g t c = (goes_both _ _ _ c.serialize_part.ensures.goes_on c.serialize_vec_shared_knot.ensures.goes_on)
 
-pub serialize_knot-returns-clause-serialized : goal.serialize_knot-returns-clause-serialized
-serialize_knot-returns-clause-serialized g t c = (written_as (knot_has_keys c.args.value.now) (knot_means c.args.value.now) refl (serialized_record knot_definitions knot_shape knot_part_definitions knot_parts knot_has_parts _ _ _ _ _ (serialized_part no_definition (both knot_definitions no_definition) (leaf (number_kind unsigned w32)) (part (vec (shared rc_flavor (one knot_shape))) no_part) [] ((each_keys (λ y. (rc_keys y.key (one knot_shape) 0 (knot_meaning y.value.value) (knot_keys y.value.value))) (out-Knot c.args.value.now).next.items) ++ []) (number (pos (out-Knot c.args.value.now).id)) (value (list (each_meaning (λ y. (shared_value y.key)) (out-Knot c.args.value.now).next.items)) no_value) _ _ _ _ _ c.in-Ok.ensures.serialized (serialized_part knot_definitions no_definition (vec (shared rc_flavor (one knot_shape))) no_part (each_keys (λ y. (rc_keys y.key (one knot_shape) 0 (knot_meaning y.value.value) (knot_keys y.value.value))) (out-Knot c.args.value.now).next.items) [] (list (each_meaning (λ y. (shared_value y.key)) (out-Knot c.args.value.now).next.items)) no_value _ _ _ _ _ c.in-Ok-serialize_vec_shared_knot.ensures.serialized (serialized_no_part no_definition _)))))
+pub serialize_whole_knot-returns-clause-serialized : goal.serialize_whole_knot-returns-clause-serialized
+serialize_whole_knot-returns-clause-serialized g t c = (written_as (knot_has_keys c.args.value.now) (knot_means c.args.value.now) refl (serialized_record knot_definitions knot_shape knot_part_definitions knot_parts knot_has_parts _ _ _ _ _ (serialized_part no_definition (both knot_definitions no_definition) (leaf (number_kind unsigned w32)) (part (vec (shared rc_flavor (one knot_shape))) no_part) [] ((each_keys (λ y. (rc_keys y.key (one knot_shape) 0 (knot_meaning y.value.value) (knot_keys y.value.value))) (out-Knot c.args.value.now).next.items) ++ []) (number (pos (out-Knot c.args.value.now).id)) (value (list (each_meaning (λ y. (shared_value y.key)) (out-Knot c.args.value.now).next.items)) no_value) _ _ _ _ _ c.in-Ok.ensures.serialized (serialized_part knot_definitions no_definition (vec (shared rc_flavor (one knot_shape))) no_part (each_keys (λ y. (rc_keys y.key (one knot_shape) 0 (knot_meaning y.value.value) (knot_keys y.value.value))) (out-Knot c.args.value.now).next.items) [] (list (each_meaning (λ y. (shared_value y.key)) (out-Knot c.args.value.now).next.items)) no_value _ _ _ _ _ c.in-Ok-serialize_vec_shared_knot.ensures.serialized (serialized_no_part no_definition _)))))
 
-pub serialize_knot-returns-clause-goes_on : goal.serialize_knot-returns-clause-goes_on
-serialize_knot-returns-clause-goes_on g t c = (goes_both _ _ _ c.serialize_part.ensures.goes_on c.serialize_vec_shared_knot.ensures.goes_on)
+pub serialize_whole_knot-returns-clause-goes_on : goal.serialize_whole_knot-returns-clause-goes_on
+serialize_whole_knot-returns-clause-goes_on g t c = (goes_both _ _ _ c.serialize_part.ensures.goes_on c.serialize_vec_shared_knot.ensures.goes_on)

@@ -97,32 +97,32 @@ serialize_vec_option_shared_station-returns-then-len-clause-refused g t c = (let
 pub serialize_vec_option_shared_station-returns-in-Err-clause-refused : goal.serialize_vec_option_shared_station-returns-in-Err-clause-refused
 serialize_vec_option_shared_station-returns-in-Err-clause-refused g t c = vec_refused line_definitions (option_shape (shared rc_flavor (one station_shape))) (length c.args.value.now.items) (each_keys (λ y. (option_keys (λ y. (rc_keys y.key (one station_shape) 0 (station_meaning y.value.value) (station_keys y.value.value))) y)) c.args.value.now.items) (list (each_meaning (λ y. (option_meaning (λ y. (shared_value y.key)) y)) c.args.value.now.items)) _ _ _ (run_owned line_definitions (option_shape (shared rc_flavor (one station_shape))) (length c.args.value.now.items) (each_keys (λ y. (option_keys (λ y. (rc_keys y.key (one station_shape) 0 (station_meaning y.value.value) (station_keys y.value.value))) y)) c.args.value.now.items) (each_meaning (λ y. (option_meaning (λ y. (shared_value y.key)) y)) c.args.value.now.items) _ _ _ (rw c.as_slice-items.ensures.value at c.in-Err.ensures.refused))
 
-pub serialize_vec_option_shared_station-returns-in-Ok-serialize_inner_slice-clause-serialized : goal.serialize_vec_option_shared_station-returns-in-Ok-serialize_inner_slice-clause-serialized
-serialize_vec_option_shared_station-returns-in-Ok-serialize_inner_slice-clause-serialized g t c = (rw c.as_slice-items.ensures.value at c.in-Ok-serialize_inner_slice.ensures.listed).since _ c.serialize_each_option_shared_station.ensures.goes_on (rw c.as_slice-items.ensures.value at c.in-Ok.ensures.serialized)
+pub serialize_vec_option_shared_station-returns-in-Ok-serialize_run_of_line-clause-serialized : goal.serialize_vec_option_shared_station-returns-in-Ok-serialize_run_of_line-clause-serialized
+serialize_vec_option_shared_station-returns-in-Ok-serialize_run_of_line-clause-serialized g t c = (rw c.as_slice-items.ensures.value at c.in-Ok-serialize_run_of_line.ensures.listed).since _ c.serialize_each_option_shared_station.ensures.goes_on (rw c.as_slice-items.ensures.value at c.in-Ok.ensures.serialized)
 
-pub serialize_vec_option_shared_station-returns-in-Ok-serialize_inner_slice-clause-goes_on : goal.serialize_vec_option_shared_station-returns-in-Ok-serialize_inner_slice-clause-goes_on
-serialize_vec_option_shared_station-returns-in-Ok-serialize_inner_slice-clause-goes_on g t c = (goes_both _ _ _ c.serialize_each_option_shared_station.ensures.goes_on c.serialize_inner_slice.ensures.goes_on)
+pub serialize_vec_option_shared_station-returns-in-Ok-serialize_run_of_line-clause-goes_on : goal.serialize_vec_option_shared_station-returns-in-Ok-serialize_run_of_line-clause-goes_on
+serialize_vec_option_shared_station-returns-in-Ok-serialize_run_of_line-clause-goes_on g t c = (goes_both _ _ _ c.serialize_each_option_shared_station.ensures.goes_on c.serialize_run_of_line.ensures.goes_on)
 
-pub serialize_vec_option_shared_station-returns-in-Err-serialize_inner_slice-clause-goes_on : goal.serialize_vec_option_shared_station-returns-in-Err-serialize_inner_slice-clause-goes_on
-serialize_vec_option_shared_station-returns-in-Err-serialize_inner_slice-clause-goes_on g t c = (goes_both _ _ _ c.serialize_each_option_shared_station.ensures.goes_on c.serialize_inner_slice.ensures.goes_on)
+pub serialize_vec_option_shared_station-returns-in-Err-serialize_run_of_line-clause-goes_on : goal.serialize_vec_option_shared_station-returns-in-Err-serialize_run_of_line-clause-goes_on
+serialize_vec_option_shared_station-returns-in-Err-serialize_run_of_line-clause-goes_on g t c = (goes_both _ _ _ c.serialize_each_option_shared_station.ensures.goes_on c.serialize_run_of_line.ensures.goes_on)
 
-pub serialize_vec_option_shared_station-returns-in-Err-serialize_inner_slice-clause-refused : goal.serialize_vec_option_shared_station-returns-in-Err-serialize_inner_slice-clause-refused
-serialize_vec_option_shared_station-returns-in-Err-serialize_inner_slice-clause-refused g t c = (rw c.as_slice-items.ensures.value at c.in-Err-serialize_inner_slice.ensures.refused).since _ c.serialize_each_option_shared_station.ensures.goes_on (rw c.as_slice-items.ensures.value at c.in-Ok.ensures.serialized)
+pub serialize_vec_option_shared_station-returns-in-Err-serialize_run_of_line-clause-refused : goal.serialize_vec_option_shared_station-returns-in-Err-serialize_run_of_line-clause-refused
+serialize_vec_option_shared_station-returns-in-Err-serialize_run_of_line-clause-refused g t c = (rw c.as_slice-items.ensures.value at c.in-Err-serialize_run_of_line.ensures.refused).since _ c.serialize_each_option_shared_station.ensures.goes_on (rw c.as_slice-items.ensures.value at c.in-Ok.ensures.serialized)
 
-pub serialize_line-returns-in-Err-clause-refused : goal.serialize_line-returns-in-Err-clause-refused
-serialize_line-returns-in-Err-clause-refused g t c = (refused_as (line_has_keys c.args.value.now) (line_means c.args.value.now) (record_refused line_definitions line_shape line_part_definitions line_parts line_has_parts _ _ _ _ _ (first_refused no_definition (both line_definitions no_definition) str (part (vec (option_shape (shared rc_flavor (one station_shape)))) no_part) [] ((each_keys (λ y. (option_keys (λ y. (rc_keys y.key (one station_shape) 0 (station_meaning y.value.value) (station_keys y.value.value))) y)) (out-Line c.args.value.now).stops.items) ++ []) (text_value (string_bytes (out-Line c.args.value.now).name)) (value (list (each_meaning (λ y. (option_meaning (λ y. (shared_value y.key)) y)) (out-Line c.args.value.now).stops.items)) no_value) _ _ _ (part_planned line_definitions (vec (option_shape (shared rc_flavor (one station_shape)))) (each_keys (λ y. (option_keys (λ y. (rc_keys y.key (one station_shape) 0 (station_meaning y.value.value) (station_keys y.value.value))) y)) (out-Line c.args.value.now).stops.items) (list (each_meaning (λ y. (option_meaning (λ y. (shared_value y.key)) y)) (out-Line c.args.value.now).stops.items)) (vec_planned line_definitions (option_shape (shared rc_flavor (one station_shape))) _ _ _ (slice_planned line_definitions (option_shape (shared rc_flavor (one station_shape))) (λ y. (option_keys (λ y. (rc_keys y.key (one station_shape) 0 (station_meaning y.value.value) (station_keys y.value.value))) y)) (λ y. (option_meaning (λ y. (shared_value y.key)) y)) (λ y. (option_planned line_definitions (shared rc_flavor (one station_shape)) (λ y. (rc_keys y.key (one station_shape) 0 (station_meaning y.value.value) (station_keys y.value.value))) (λ y. (shared_value y.key)) (λ y. (rc_one_planned line_definitions y.key (one station_shape) station_shape refl _ _ (station_planned y.value.value))) y)) (out-Line c.args.value.now).stops.items)) no_part_planned) c.in-Err.ensures.refused)))
+pub serialize_whole_line-returns-in-Err-clause-refused : goal.serialize_whole_line-returns-in-Err-clause-refused
+serialize_whole_line-returns-in-Err-clause-refused g t c = (refused_as (line_has_keys c.args.value.now) (line_means c.args.value.now) (record_refused line_definitions line_shape line_part_definitions line_parts line_has_parts _ _ _ _ _ (first_refused no_definition (both line_definitions no_definition) str (part (vec (option_shape (shared rc_flavor (one station_shape)))) no_part) [] ((each_keys (λ y. (option_keys (λ y. (rc_keys y.key (one station_shape) 0 (station_meaning y.value.value) (station_keys y.value.value))) y)) (out-Line c.args.value.now).stops.items) ++ []) (text_value (string_bytes (out-Line c.args.value.now).name)) (value (list (each_meaning (λ y. (option_meaning (λ y. (shared_value y.key)) y)) (out-Line c.args.value.now).stops.items)) no_value) _ _ _ (part_planned line_definitions (vec (option_shape (shared rc_flavor (one station_shape)))) (each_keys (λ y. (option_keys (λ y. (rc_keys y.key (one station_shape) 0 (station_meaning y.value.value) (station_keys y.value.value))) y)) (out-Line c.args.value.now).stops.items) (list (each_meaning (λ y. (option_meaning (λ y. (shared_value y.key)) y)) (out-Line c.args.value.now).stops.items)) (vec_planned line_definitions (option_shape (shared rc_flavor (one station_shape))) _ _ _ (slice_planned line_definitions (option_shape (shared rc_flavor (one station_shape))) (λ y. (option_keys (λ y. (rc_keys y.key (one station_shape) 0 (station_meaning y.value.value) (station_keys y.value.value))) y)) (λ y. (option_meaning (λ y. (shared_value y.key)) y)) (λ y. (option_planned line_definitions (shared rc_flavor (one station_shape)) (λ y. (rc_keys y.key (one station_shape) 0 (station_meaning y.value.value) (station_keys y.value.value))) (λ y. (shared_value y.key)) (λ y. (rc_one_planned line_definitions y.key (one station_shape) station_shape refl _ _ (station_planned y.value.value))) y)) (out-Line c.args.value.now).stops.items)) no_part_planned) c.in-Err.ensures.refused)))
 
-pub serialize_line-returns-in-Err-serialize_vec_option_shared_station-clause-refused : goal.serialize_line-returns-in-Err-serialize_vec_option_shared_station-clause-refused
-serialize_line-returns-in-Err-serialize_vec_option_shared_station-clause-refused g t c = (refused_as (line_has_keys c.args.value.now) (line_means c.args.value.now) (record_refused line_definitions line_shape line_part_definitions line_parts line_has_parts _ _ _ _ _ (later_refused no_definition (both line_definitions no_definition) str (part (vec (option_shape (shared rc_flavor (one station_shape)))) no_part) [] ((each_keys (λ y. (option_keys (λ y. (rc_keys y.key (one station_shape) 0 (station_meaning y.value.value) (station_keys y.value.value))) y)) (out-Line c.args.value.now).stops.items) ++ []) (text_value (string_bytes (out-Line c.args.value.now).name)) (value (list (each_meaning (λ y. (option_meaning (λ y. (shared_value y.key)) y)) (out-Line c.args.value.now).stops.items)) no_value) _ _ _ _ _ c.in-Ok.ensures.serialized c.serialize_part.ensures.goes_on c.serialize_vec_option_shared_station.ensures.goes_on (first_refused line_definitions no_definition (vec (option_shape (shared rc_flavor (one station_shape)))) no_part (each_keys (λ y. (option_keys (λ y. (rc_keys y.key (one station_shape) 0 (station_meaning y.value.value) (station_keys y.value.value))) y)) (out-Line c.args.value.now).stops.items) [] (list (each_meaning (λ y. (option_meaning (λ y. (shared_value y.key)) y)) (out-Line c.args.value.now).stops.items)) no_value _ _ _ no_part_planned c.in-Err-serialize_vec_option_shared_station.ensures.refused))))
+pub serialize_whole_line-returns-in-Err-serialize_vec_option_shared_station-clause-refused : goal.serialize_whole_line-returns-in-Err-serialize_vec_option_shared_station-clause-refused
+serialize_whole_line-returns-in-Err-serialize_vec_option_shared_station-clause-refused g t c = rw c.handed_on.ensures (refused_as (line_has_keys c.args.value.now) (line_means c.args.value.now) (record_refused line_definitions line_shape line_part_definitions line_parts line_has_parts _ _ _ _ _ (later_refused no_definition (both line_definitions no_definition) str (part (vec (option_shape (shared rc_flavor (one station_shape)))) no_part) [] ((each_keys (λ y. (option_keys (λ y. (rc_keys y.key (one station_shape) 0 (station_meaning y.value.value) (station_keys y.value.value))) y)) (out-Line c.args.value.now).stops.items) ++ []) (text_value (string_bytes (out-Line c.args.value.now).name)) (value (list (each_meaning (λ y. (option_meaning (λ y. (shared_value y.key)) y)) (out-Line c.args.value.now).stops.items)) no_value) _ _ _ _ _ c.in-Ok.ensures.serialized c.serialize_part.ensures.goes_on c.serialize_vec_option_shared_station.ensures.goes_on (first_refused line_definitions no_definition (vec (option_shape (shared rc_flavor (one station_shape)))) no_part (each_keys (λ y. (option_keys (λ y. (rc_keys y.key (one station_shape) 0 (station_meaning y.value.value) (station_keys y.value.value))) y)) (out-Line c.args.value.now).stops.items) [] (list (each_meaning (λ y. (option_meaning (λ y. (shared_value y.key)) y)) (out-Line c.args.value.now).stops.items)) no_value _ _ _ no_part_planned c.in-Err-serialize_vec_option_shared_station.ensures.refused))))
 
-pub serialize_line-returns-in-Err-serialize_vec_option_shared_station-clause-goes_on : goal.serialize_line-returns-in-Err-serialize_vec_option_shared_station-clause-goes_on
-serialize_line-returns-in-Err-serialize_vec_option_shared_station-clause-goes_on g t c = (goes_both _ _ _ c.serialize_part.ensures.goes_on c.serialize_vec_option_shared_station.ensures.goes_on)
+pub serialize_whole_line-returns-in-Err-serialize_vec_option_shared_station-clause-goes_on : goal.serialize_whole_line-returns-in-Err-serialize_vec_option_shared_station-clause-goes_on
+serialize_whole_line-returns-in-Err-serialize_vec_option_shared_station-clause-goes_on g t c = (goes_both _ _ _ c.serialize_part.ensures.goes_on c.serialize_vec_option_shared_station.ensures.goes_on)
 
-pub serialize_line-returns-clause-serialized : goal.serialize_line-returns-clause-serialized
-serialize_line-returns-clause-serialized g t c = (written_as (line_has_keys c.args.value.now) (line_means c.args.value.now) refl (serialized_record line_definitions line_shape line_part_definitions line_parts line_has_parts _ _ _ _ _ (serialized_part no_definition (both line_definitions no_definition) str (part (vec (option_shape (shared rc_flavor (one station_shape)))) no_part) [] ((each_keys (λ y. (option_keys (λ y. (rc_keys y.key (one station_shape) 0 (station_meaning y.value.value) (station_keys y.value.value))) y)) (out-Line c.args.value.now).stops.items) ++ []) (text_value (string_bytes (out-Line c.args.value.now).name)) (value (list (each_meaning (λ y. (option_meaning (λ y. (shared_value y.key)) y)) (out-Line c.args.value.now).stops.items)) no_value) _ _ _ _ _ c.in-Ok.ensures.serialized (serialized_part line_definitions no_definition (vec (option_shape (shared rc_flavor (one station_shape)))) no_part (each_keys (λ y. (option_keys (λ y. (rc_keys y.key (one station_shape) 0 (station_meaning y.value.value) (station_keys y.value.value))) y)) (out-Line c.args.value.now).stops.items) [] (list (each_meaning (λ y. (option_meaning (λ y. (shared_value y.key)) y)) (out-Line c.args.value.now).stops.items)) no_value _ _ _ _ _ c.in-Ok-serialize_vec_option_shared_station.ensures.serialized (serialized_no_part no_definition _)))))
+pub serialize_whole_line-returns-clause-serialized : goal.serialize_whole_line-returns-clause-serialized
+serialize_whole_line-returns-clause-serialized g t c = (written_as (line_has_keys c.args.value.now) (line_means c.args.value.now) refl (serialized_record line_definitions line_shape line_part_definitions line_parts line_has_parts _ _ _ _ _ (serialized_part no_definition (both line_definitions no_definition) str (part (vec (option_shape (shared rc_flavor (one station_shape)))) no_part) [] ((each_keys (λ y. (option_keys (λ y. (rc_keys y.key (one station_shape) 0 (station_meaning y.value.value) (station_keys y.value.value))) y)) (out-Line c.args.value.now).stops.items) ++ []) (text_value (string_bytes (out-Line c.args.value.now).name)) (value (list (each_meaning (λ y. (option_meaning (λ y. (shared_value y.key)) y)) (out-Line c.args.value.now).stops.items)) no_value) _ _ _ _ _ c.in-Ok.ensures.serialized (serialized_part line_definitions no_definition (vec (option_shape (shared rc_flavor (one station_shape)))) no_part (each_keys (λ y. (option_keys (λ y. (rc_keys y.key (one station_shape) 0 (station_meaning y.value.value) (station_keys y.value.value))) y)) (out-Line c.args.value.now).stops.items) [] (list (each_meaning (λ y. (option_meaning (λ y. (shared_value y.key)) y)) (out-Line c.args.value.now).stops.items)) no_value _ _ _ _ _ c.in-Ok-serialize_vec_option_shared_station.ensures.serialized (serialized_no_part no_definition _)))))
 
-pub serialize_line-returns-clause-goes_on : goal.serialize_line-returns-clause-goes_on
-serialize_line-returns-clause-goes_on g t c = (goes_both _ _ _ c.serialize_part.ensures.goes_on c.serialize_vec_option_shared_station.ensures.goes_on)
+pub serialize_whole_line-returns-clause-goes_on : goal.serialize_whole_line-returns-clause-goes_on
+serialize_whole_line-returns-clause-goes_on g t c = (goes_both _ _ _ c.serialize_part.ensures.goes_on c.serialize_vec_option_shared_station.ensures.goes_on)
 
 weak_serialized : (D : Definitions) (P : Pointee) (ks : List Naming) (v flat : Value) (old new : WriterState) → Serialized D (shared rc_flavor P) ks v flat old new → Serialized D (weak rc_flavor P) ks v flat old new
 weak_serialized D P ks v flat old new (serialized writes planned) = serialized writes (λ below s names k m. (
@@ -221,35 +221,35 @@ serialize_vec_weak_shared_station-returns-then-len-clause-refused g t c = (let l
 pub serialize_vec_weak_shared_station-returns-in-Err-clause-refused : goal.serialize_vec_weak_shared_station-returns-in-Err-clause-refused
 serialize_vec_weak_shared_station-returns-in-Err-clause-refused g t c = vec_refused station_definitions (weak rc_flavor (one station_shape)) (length c.args.value.now.items) (each_keys (λ y. (option_keys (λ s. (rc_keys s.key (one station_shape) 0 (station_meaning s.value.value) (station_keys s.value.value))) y.value)) c.args.value.now.items) (list (each_meaning (λ y. (weak_value (λ s. (shared_value s.key)) y.value)) c.args.value.now.items)) _ _ _ (run_owned station_definitions (weak rc_flavor (one station_shape)) (length c.args.value.now.items) (each_keys (λ y. (option_keys (λ s. (rc_keys s.key (one station_shape) 0 (station_meaning s.value.value) (station_keys s.value.value))) y.value)) c.args.value.now.items) (each_meaning (λ y. (weak_value (λ s. (shared_value s.key)) y.value)) c.args.value.now.items) _ _ _ (rw c.as_slice-items.ensures.value at c.in-Err.ensures.refused))
 
-pub serialize_vec_weak_shared_station-returns-in-Ok-serialize_inner_slice-clause-serialized : goal.serialize_vec_weak_shared_station-returns-in-Ok-serialize_inner_slice-clause-serialized
-serialize_vec_weak_shared_station-returns-in-Ok-serialize_inner_slice-clause-serialized g t c = (rw c.as_slice-items.ensures.value at c.in-Ok-serialize_inner_slice.ensures.listed).since _ c.serialize_each_weak_shared_station.ensures.goes_on (rw c.as_slice-items.ensures.value at c.in-Ok.ensures.serialized)
+pub serialize_vec_weak_shared_station-returns-in-Ok-serialize_run_of_line-clause-serialized : goal.serialize_vec_weak_shared_station-returns-in-Ok-serialize_run_of_line-clause-serialized
+serialize_vec_weak_shared_station-returns-in-Ok-serialize_run_of_line-clause-serialized g t c = (rw c.as_slice-items.ensures.value at c.in-Ok-serialize_run_of_line.ensures.listed).since _ c.serialize_each_weak_shared_station.ensures.goes_on (rw c.as_slice-items.ensures.value at c.in-Ok.ensures.serialized)
 
-pub serialize_vec_weak_shared_station-returns-in-Ok-serialize_inner_slice-clause-goes_on : goal.serialize_vec_weak_shared_station-returns-in-Ok-serialize_inner_slice-clause-goes_on
-serialize_vec_weak_shared_station-returns-in-Ok-serialize_inner_slice-clause-goes_on g t c = (goes_both _ _ _ c.serialize_each_weak_shared_station.ensures.goes_on c.serialize_inner_slice.ensures.goes_on)
+pub serialize_vec_weak_shared_station-returns-in-Ok-serialize_run_of_line-clause-goes_on : goal.serialize_vec_weak_shared_station-returns-in-Ok-serialize_run_of_line-clause-goes_on
+serialize_vec_weak_shared_station-returns-in-Ok-serialize_run_of_line-clause-goes_on g t c = (goes_both _ _ _ c.serialize_each_weak_shared_station.ensures.goes_on c.serialize_run_of_line.ensures.goes_on)
 
-pub serialize_vec_weak_shared_station-returns-in-Err-serialize_inner_slice-clause-goes_on : goal.serialize_vec_weak_shared_station-returns-in-Err-serialize_inner_slice-clause-goes_on
-serialize_vec_weak_shared_station-returns-in-Err-serialize_inner_slice-clause-goes_on g t c = (goes_both _ _ _ c.serialize_each_weak_shared_station.ensures.goes_on c.serialize_inner_slice.ensures.goes_on)
+pub serialize_vec_weak_shared_station-returns-in-Err-serialize_run_of_line-clause-goes_on : goal.serialize_vec_weak_shared_station-returns-in-Err-serialize_run_of_line-clause-goes_on
+serialize_vec_weak_shared_station-returns-in-Err-serialize_run_of_line-clause-goes_on g t c = (goes_both _ _ _ c.serialize_each_weak_shared_station.ensures.goes_on c.serialize_run_of_line.ensures.goes_on)
 
-pub serialize_vec_weak_shared_station-returns-in-Err-serialize_inner_slice-clause-refused : goal.serialize_vec_weak_shared_station-returns-in-Err-serialize_inner_slice-clause-refused
-serialize_vec_weak_shared_station-returns-in-Err-serialize_inner_slice-clause-refused g t c = (rw c.as_slice-items.ensures.value at c.in-Err-serialize_inner_slice.ensures.refused).since _ c.serialize_each_weak_shared_station.ensures.goes_on (rw c.as_slice-items.ensures.value at c.in-Ok.ensures.serialized)
+pub serialize_vec_weak_shared_station-returns-in-Err-serialize_run_of_line-clause-refused : goal.serialize_vec_weak_shared_station-returns-in-Err-serialize_run_of_line-clause-refused
+serialize_vec_weak_shared_station-returns-in-Err-serialize_run_of_line-clause-refused g t c = (rw c.as_slice-items.ensures.value at c.in-Err-serialize_run_of_line.ensures.refused).since _ c.serialize_each_weak_shared_station.ensures.goes_on (rw c.as_slice-items.ensures.value at c.in-Ok.ensures.serialized)
 
-pub serialize_station-returns-in-Err-clause-refused : goal.serialize_station-returns-in-Err-clause-refused
-serialize_station-returns-in-Err-clause-refused g t c = (refused_as (station_has_keys c.args.value.now) (station_means c.args.value.now) (record_refused station_definitions station_shape station_part_definitions station_parts station_has_parts _ _ _ _ _ (first_refused no_definition (both station_definitions (both station_definitions no_definition)) (leaf (number_kind unsigned w32)) (part (weak rc_flavor (one line_shape)) (part (vec (weak rc_flavor (one station_shape))) no_part)) [] ((option_keys (λ s. (rc_keys s.key (one line_shape) 0 (line_meaning s.value.value) (line_keys s.value.value))) (out-Station c.args.value.now).line.value) ++ ((each_keys (λ y. (option_keys (λ s. (rc_keys s.key (one station_shape) 0 (station_meaning s.value.value) (station_keys s.value.value))) y.value)) (out-Station c.args.value.now).before.items) ++ [])) (number (pos (out-Station c.args.value.now).id)) (value (weak_value (λ s. (shared_value s.key)) (out-Station c.args.value.now).line.value) (value (list (each_meaning (λ y. (weak_value (λ s. (shared_value s.key)) y.value)) (out-Station c.args.value.now).before.items)) no_value)) _ _ _ (part_planned station_definitions (weak rc_flavor (one line_shape)) (option_keys (λ s. (rc_keys s.key (one line_shape) 0 (line_meaning s.value.value) (line_keys s.value.value))) (out-Station c.args.value.now).line.value) (weak_value (λ s. (shared_value s.key)) (out-Station c.args.value.now).line.value) (weak_planned station_definitions rc_flavor (one line_shape) (λ s. (rc_keys s.key (one line_shape) 0 (line_meaning s.value.value) (line_keys s.value.value))) (λ s. (shared_value s.key)) (λ s. (rc_one_planned station_definitions s.key (one line_shape) line_shape refl _ _ (line_planned s.value.value))) (out-Station c.args.value.now).line.value) (part_planned station_definitions (vec (weak rc_flavor (one station_shape))) (each_keys (λ y. (option_keys (λ s. (rc_keys s.key (one station_shape) 0 (station_meaning s.value.value) (station_keys s.value.value))) y.value)) (out-Station c.args.value.now).before.items) (list (each_meaning (λ y. (weak_value (λ s. (shared_value s.key)) y.value)) (out-Station c.args.value.now).before.items)) (vec_planned station_definitions (weak rc_flavor (one station_shape)) _ _ _ (slice_planned station_definitions (weak rc_flavor (one station_shape)) (λ y. (option_keys (λ s. (rc_keys s.key (one station_shape) 0 (station_meaning s.value.value) (station_keys s.value.value))) y.value)) (λ y. (weak_value (λ s. (shared_value s.key)) y.value)) (λ y. (weak_planned station_definitions rc_flavor (one station_shape) (λ s. (rc_keys s.key (one station_shape) 0 (station_meaning s.value.value) (station_keys s.value.value))) (λ s. (shared_value s.key)) (λ s. (rc_one_planned station_definitions s.key (one station_shape) station_shape refl _ _ (station_planned s.value.value))) y.value)) (out-Station c.args.value.now).before.items)) no_part_planned)) c.in-Err.ensures.refused)))
+pub serialize_whole_station-returns-in-Err-clause-refused : goal.serialize_whole_station-returns-in-Err-clause-refused
+serialize_whole_station-returns-in-Err-clause-refused g t c = (refused_as (station_has_keys c.args.value.now) (station_means c.args.value.now) (record_refused station_definitions station_shape station_part_definitions station_parts station_has_parts _ _ _ _ _ (first_refused no_definition (both station_definitions (both station_definitions no_definition)) (leaf (number_kind unsigned w32)) (part (weak rc_flavor (one line_shape)) (part (vec (weak rc_flavor (one station_shape))) no_part)) [] ((option_keys (λ s. (rc_keys s.key (one line_shape) 0 (line_meaning s.value.value) (line_keys s.value.value))) (out-Station c.args.value.now).line.value) ++ ((each_keys (λ y. (option_keys (λ s. (rc_keys s.key (one station_shape) 0 (station_meaning s.value.value) (station_keys s.value.value))) y.value)) (out-Station c.args.value.now).before.items) ++ [])) (number (pos (out-Station c.args.value.now).id)) (value (weak_value (λ s. (shared_value s.key)) (out-Station c.args.value.now).line.value) (value (list (each_meaning (λ y. (weak_value (λ s. (shared_value s.key)) y.value)) (out-Station c.args.value.now).before.items)) no_value)) _ _ _ (part_planned station_definitions (weak rc_flavor (one line_shape)) (option_keys (λ s. (rc_keys s.key (one line_shape) 0 (line_meaning s.value.value) (line_keys s.value.value))) (out-Station c.args.value.now).line.value) (weak_value (λ s. (shared_value s.key)) (out-Station c.args.value.now).line.value) (weak_planned station_definitions rc_flavor (one line_shape) (λ s. (rc_keys s.key (one line_shape) 0 (line_meaning s.value.value) (line_keys s.value.value))) (λ s. (shared_value s.key)) (λ s. (rc_one_planned station_definitions s.key (one line_shape) line_shape refl _ _ (line_planned s.value.value))) (out-Station c.args.value.now).line.value) (part_planned station_definitions (vec (weak rc_flavor (one station_shape))) (each_keys (λ y. (option_keys (λ s. (rc_keys s.key (one station_shape) 0 (station_meaning s.value.value) (station_keys s.value.value))) y.value)) (out-Station c.args.value.now).before.items) (list (each_meaning (λ y. (weak_value (λ s. (shared_value s.key)) y.value)) (out-Station c.args.value.now).before.items)) (vec_planned station_definitions (weak rc_flavor (one station_shape)) _ _ _ (slice_planned station_definitions (weak rc_flavor (one station_shape)) (λ y. (option_keys (λ s. (rc_keys s.key (one station_shape) 0 (station_meaning s.value.value) (station_keys s.value.value))) y.value)) (λ y. (weak_value (λ s. (shared_value s.key)) y.value)) (λ y. (weak_planned station_definitions rc_flavor (one station_shape) (λ s. (rc_keys s.key (one station_shape) 0 (station_meaning s.value.value) (station_keys s.value.value))) (λ s. (shared_value s.key)) (λ s. (rc_one_planned station_definitions s.key (one station_shape) station_shape refl _ _ (station_planned s.value.value))) y.value)) (out-Station c.args.value.now).before.items)) no_part_planned)) c.in-Err.ensures.refused)))
 
-pub serialize_station-returns-in-Err-serialize_weak_shared_line-clause-refused : goal.serialize_station-returns-in-Err-serialize_weak_shared_line-clause-refused
-serialize_station-returns-in-Err-serialize_weak_shared_line-clause-refused g t c = (refused_as (station_has_keys c.args.value.now) (station_means c.args.value.now) (record_refused station_definitions station_shape station_part_definitions station_parts station_has_parts _ _ _ _ _ (later_refused no_definition (both station_definitions (both station_definitions no_definition)) (leaf (number_kind unsigned w32)) (part (weak rc_flavor (one line_shape)) (part (vec (weak rc_flavor (one station_shape))) no_part)) [] ((option_keys (λ s. (rc_keys s.key (one line_shape) 0 (line_meaning s.value.value) (line_keys s.value.value))) (out-Station c.args.value.now).line.value) ++ ((each_keys (λ y. (option_keys (λ s. (rc_keys s.key (one station_shape) 0 (station_meaning s.value.value) (station_keys s.value.value))) y.value)) (out-Station c.args.value.now).before.items) ++ [])) (number (pos (out-Station c.args.value.now).id)) (value (weak_value (λ s. (shared_value s.key)) (out-Station c.args.value.now).line.value) (value (list (each_meaning (λ y. (weak_value (λ s. (shared_value s.key)) y.value)) (out-Station c.args.value.now).before.items)) no_value)) _ _ _ _ _ c.in-Ok.ensures.serialized c.serialize_part.ensures.goes_on c.serialize_weak_shared_line.ensures.goes_on (first_refused station_definitions (both station_definitions no_definition) (weak rc_flavor (one line_shape)) (part (vec (weak rc_flavor (one station_shape))) no_part) (option_keys (λ s. (rc_keys s.key (one line_shape) 0 (line_meaning s.value.value) (line_keys s.value.value))) (out-Station c.args.value.now).line.value) ((each_keys (λ y. (option_keys (λ s. (rc_keys s.key (one station_shape) 0 (station_meaning s.value.value) (station_keys s.value.value))) y.value)) (out-Station c.args.value.now).before.items) ++ []) (weak_value (λ s. (shared_value s.key)) (out-Station c.args.value.now).line.value) (value (list (each_meaning (λ y. (weak_value (λ s. (shared_value s.key)) y.value)) (out-Station c.args.value.now).before.items)) no_value) _ _ _ (part_planned station_definitions (vec (weak rc_flavor (one station_shape))) (each_keys (λ y. (option_keys (λ s. (rc_keys s.key (one station_shape) 0 (station_meaning s.value.value) (station_keys s.value.value))) y.value)) (out-Station c.args.value.now).before.items) (list (each_meaning (λ y. (weak_value (λ s. (shared_value s.key)) y.value)) (out-Station c.args.value.now).before.items)) (vec_planned station_definitions (weak rc_flavor (one station_shape)) _ _ _ (slice_planned station_definitions (weak rc_flavor (one station_shape)) (λ y. (option_keys (λ s. (rc_keys s.key (one station_shape) 0 (station_meaning s.value.value) (station_keys s.value.value))) y.value)) (λ y. (weak_value (λ s. (shared_value s.key)) y.value)) (λ y. (weak_planned station_definitions rc_flavor (one station_shape) (λ s. (rc_keys s.key (one station_shape) 0 (station_meaning s.value.value) (station_keys s.value.value))) (λ s. (shared_value s.key)) (λ s. (rc_one_planned station_definitions s.key (one station_shape) station_shape refl _ _ (station_planned s.value.value))) y.value)) (out-Station c.args.value.now).before.items)) no_part_planned) c.in-Err-serialize_weak_shared_line.ensures.refused))))
+pub serialize_whole_station-returns-in-Err-serialize_weak_shared_line-clause-refused : goal.serialize_whole_station-returns-in-Err-serialize_weak_shared_line-clause-refused
+serialize_whole_station-returns-in-Err-serialize_weak_shared_line-clause-refused g t c = rw c.handed_on.ensures (refused_as (station_has_keys c.args.value.now) (station_means c.args.value.now) (record_refused station_definitions station_shape station_part_definitions station_parts station_has_parts _ _ _ _ _ (later_refused no_definition (both station_definitions (both station_definitions no_definition)) (leaf (number_kind unsigned w32)) (part (weak rc_flavor (one line_shape)) (part (vec (weak rc_flavor (one station_shape))) no_part)) [] ((option_keys (λ s. (rc_keys s.key (one line_shape) 0 (line_meaning s.value.value) (line_keys s.value.value))) (out-Station c.args.value.now).line.value) ++ ((each_keys (λ y. (option_keys (λ s. (rc_keys s.key (one station_shape) 0 (station_meaning s.value.value) (station_keys s.value.value))) y.value)) (out-Station c.args.value.now).before.items) ++ [])) (number (pos (out-Station c.args.value.now).id)) (value (weak_value (λ s. (shared_value s.key)) (out-Station c.args.value.now).line.value) (value (list (each_meaning (λ y. (weak_value (λ s. (shared_value s.key)) y.value)) (out-Station c.args.value.now).before.items)) no_value)) _ _ _ _ _ c.in-Ok.ensures.serialized c.serialize_part.ensures.goes_on c.serialize_weak_shared_line.ensures.goes_on (first_refused station_definitions (both station_definitions no_definition) (weak rc_flavor (one line_shape)) (part (vec (weak rc_flavor (one station_shape))) no_part) (option_keys (λ s. (rc_keys s.key (one line_shape) 0 (line_meaning s.value.value) (line_keys s.value.value))) (out-Station c.args.value.now).line.value) ((each_keys (λ y. (option_keys (λ s. (rc_keys s.key (one station_shape) 0 (station_meaning s.value.value) (station_keys s.value.value))) y.value)) (out-Station c.args.value.now).before.items) ++ []) (weak_value (λ s. (shared_value s.key)) (out-Station c.args.value.now).line.value) (value (list (each_meaning (λ y. (weak_value (λ s. (shared_value s.key)) y.value)) (out-Station c.args.value.now).before.items)) no_value) _ _ _ (part_planned station_definitions (vec (weak rc_flavor (one station_shape))) (each_keys (λ y. (option_keys (λ s. (rc_keys s.key (one station_shape) 0 (station_meaning s.value.value) (station_keys s.value.value))) y.value)) (out-Station c.args.value.now).before.items) (list (each_meaning (λ y. (weak_value (λ s. (shared_value s.key)) y.value)) (out-Station c.args.value.now).before.items)) (vec_planned station_definitions (weak rc_flavor (one station_shape)) _ _ _ (slice_planned station_definitions (weak rc_flavor (one station_shape)) (λ y. (option_keys (λ s. (rc_keys s.key (one station_shape) 0 (station_meaning s.value.value) (station_keys s.value.value))) y.value)) (λ y. (weak_value (λ s. (shared_value s.key)) y.value)) (λ y. (weak_planned station_definitions rc_flavor (one station_shape) (λ s. (rc_keys s.key (one station_shape) 0 (station_meaning s.value.value) (station_keys s.value.value))) (λ s. (shared_value s.key)) (λ s. (rc_one_planned station_definitions s.key (one station_shape) station_shape refl _ _ (station_planned s.value.value))) y.value)) (out-Station c.args.value.now).before.items)) no_part_planned) c.in-Err-serialize_weak_shared_line.ensures.refused))))
 
-pub serialize_station-returns-in-Err-serialize_weak_shared_line-clause-goes_on : goal.serialize_station-returns-in-Err-serialize_weak_shared_line-clause-goes_on
-serialize_station-returns-in-Err-serialize_weak_shared_line-clause-goes_on g t c = (goes_both _ _ _ c.serialize_part.ensures.goes_on c.serialize_weak_shared_line.ensures.goes_on)
+pub serialize_whole_station-returns-in-Err-serialize_weak_shared_line-clause-goes_on : goal.serialize_whole_station-returns-in-Err-serialize_weak_shared_line-clause-goes_on
+serialize_whole_station-returns-in-Err-serialize_weak_shared_line-clause-goes_on g t c = (goes_both _ _ _ c.serialize_part.ensures.goes_on c.serialize_weak_shared_line.ensures.goes_on)
 
-pub serialize_station-returns-in-Err-serialize_vec_weak_shared_station-clause-refused : goal.serialize_station-returns-in-Err-serialize_vec_weak_shared_station-clause-refused
-serialize_station-returns-in-Err-serialize_vec_weak_shared_station-clause-refused g t c = (refused_as (station_has_keys c.args.value.now) (station_means c.args.value.now) (record_refused station_definitions station_shape station_part_definitions station_parts station_has_parts _ _ _ _ _ (later_refused no_definition (both station_definitions (both station_definitions no_definition)) (leaf (number_kind unsigned w32)) (part (weak rc_flavor (one line_shape)) (part (vec (weak rc_flavor (one station_shape))) no_part)) [] ((option_keys (λ s. (rc_keys s.key (one line_shape) 0 (line_meaning s.value.value) (line_keys s.value.value))) (out-Station c.args.value.now).line.value) ++ ((each_keys (λ y. (option_keys (λ s. (rc_keys s.key (one station_shape) 0 (station_meaning s.value.value) (station_keys s.value.value))) y.value)) (out-Station c.args.value.now).before.items) ++ [])) (number (pos (out-Station c.args.value.now).id)) (value (weak_value (λ s. (shared_value s.key)) (out-Station c.args.value.now).line.value) (value (list (each_meaning (λ y. (weak_value (λ s. (shared_value s.key)) y.value)) (out-Station c.args.value.now).before.items)) no_value)) _ _ _ _ _ c.in-Ok.ensures.serialized c.serialize_part.ensures.goes_on (goes_both _ _ _ c.serialize_weak_shared_line.ensures.goes_on c.serialize_vec_weak_shared_station.ensures.goes_on) (later_refused station_definitions (both station_definitions no_definition) (weak rc_flavor (one line_shape)) (part (vec (weak rc_flavor (one station_shape))) no_part) (option_keys (λ s. (rc_keys s.key (one line_shape) 0 (line_meaning s.value.value) (line_keys s.value.value))) (out-Station c.args.value.now).line.value) ((each_keys (λ y. (option_keys (λ s. (rc_keys s.key (one station_shape) 0 (station_meaning s.value.value) (station_keys s.value.value))) y.value)) (out-Station c.args.value.now).before.items) ++ []) (weak_value (λ s. (shared_value s.key)) (out-Station c.args.value.now).line.value) (value (list (each_meaning (λ y. (weak_value (λ s. (shared_value s.key)) y.value)) (out-Station c.args.value.now).before.items)) no_value) _ _ _ _ _ c.in-Ok-serialize_weak_shared_line.ensures.serialized c.serialize_weak_shared_line.ensures.goes_on c.serialize_vec_weak_shared_station.ensures.goes_on (first_refused station_definitions no_definition (vec (weak rc_flavor (one station_shape))) no_part (each_keys (λ y. (option_keys (λ s. (rc_keys s.key (one station_shape) 0 (station_meaning s.value.value) (station_keys s.value.value))) y.value)) (out-Station c.args.value.now).before.items) [] (list (each_meaning (λ y. (weak_value (λ s. (shared_value s.key)) y.value)) (out-Station c.args.value.now).before.items)) no_value _ _ _ no_part_planned c.in-Err-serialize_vec_weak_shared_station.ensures.refused)))))
+pub serialize_whole_station-returns-in-Err-serialize_vec_weak_shared_station-clause-refused : goal.serialize_whole_station-returns-in-Err-serialize_vec_weak_shared_station-clause-refused
+serialize_whole_station-returns-in-Err-serialize_vec_weak_shared_station-clause-refused g t c = (refused_as (station_has_keys c.args.value.now) (station_means c.args.value.now) (record_refused station_definitions station_shape station_part_definitions station_parts station_has_parts _ _ _ _ _ (later_refused no_definition (both station_definitions (both station_definitions no_definition)) (leaf (number_kind unsigned w32)) (part (weak rc_flavor (one line_shape)) (part (vec (weak rc_flavor (one station_shape))) no_part)) [] ((option_keys (λ s. (rc_keys s.key (one line_shape) 0 (line_meaning s.value.value) (line_keys s.value.value))) (out-Station c.args.value.now).line.value) ++ ((each_keys (λ y. (option_keys (λ s. (rc_keys s.key (one station_shape) 0 (station_meaning s.value.value) (station_keys s.value.value))) y.value)) (out-Station c.args.value.now).before.items) ++ [])) (number (pos (out-Station c.args.value.now).id)) (value (weak_value (λ s. (shared_value s.key)) (out-Station c.args.value.now).line.value) (value (list (each_meaning (λ y. (weak_value (λ s. (shared_value s.key)) y.value)) (out-Station c.args.value.now).before.items)) no_value)) _ _ _ _ _ c.in-Ok.ensures.serialized c.serialize_part.ensures.goes_on (goes_both _ _ _ c.serialize_weak_shared_line.ensures.goes_on c.serialize_vec_weak_shared_station.ensures.goes_on) (later_refused station_definitions (both station_definitions no_definition) (weak rc_flavor (one line_shape)) (part (vec (weak rc_flavor (one station_shape))) no_part) (option_keys (λ s. (rc_keys s.key (one line_shape) 0 (line_meaning s.value.value) (line_keys s.value.value))) (out-Station c.args.value.now).line.value) ((each_keys (λ y. (option_keys (λ s. (rc_keys s.key (one station_shape) 0 (station_meaning s.value.value) (station_keys s.value.value))) y.value)) (out-Station c.args.value.now).before.items) ++ []) (weak_value (λ s. (shared_value s.key)) (out-Station c.args.value.now).line.value) (value (list (each_meaning (λ y. (weak_value (λ s. (shared_value s.key)) y.value)) (out-Station c.args.value.now).before.items)) no_value) _ _ _ _ _ c.in-Ok-serialize_weak_shared_line.ensures.serialized c.serialize_weak_shared_line.ensures.goes_on c.serialize_vec_weak_shared_station.ensures.goes_on (first_refused station_definitions no_definition (vec (weak rc_flavor (one station_shape))) no_part (each_keys (λ y. (option_keys (λ s. (rc_keys s.key (one station_shape) 0 (station_meaning s.value.value) (station_keys s.value.value))) y.value)) (out-Station c.args.value.now).before.items) [] (list (each_meaning (λ y. (weak_value (λ s. (shared_value s.key)) y.value)) (out-Station c.args.value.now).before.items)) no_value _ _ _ no_part_planned c.in-Err-serialize_vec_weak_shared_station.ensures.refused)))))
 
-pub serialize_station-returns-in-Err-serialize_vec_weak_shared_station-clause-goes_on : goal.serialize_station-returns-in-Err-serialize_vec_weak_shared_station-clause-goes_on
-serialize_station-returns-in-Err-serialize_vec_weak_shared_station-clause-goes_on g t c = (goes_both _ _ _ (goes_both _ _ _ c.serialize_part.ensures.goes_on c.serialize_weak_shared_line.ensures.goes_on) c.serialize_vec_weak_shared_station.ensures.goes_on)
+pub serialize_whole_station-returns-in-Err-serialize_vec_weak_shared_station-clause-goes_on : goal.serialize_whole_station-returns-in-Err-serialize_vec_weak_shared_station-clause-goes_on
+serialize_whole_station-returns-in-Err-serialize_vec_weak_shared_station-clause-goes_on g t c = (goes_both _ _ _ (goes_both _ _ _ c.serialize_part.ensures.goes_on c.serialize_weak_shared_line.ensures.goes_on) c.serialize_vec_weak_shared_station.ensures.goes_on)
 
-pub serialize_station-returns-clause-serialized : goal.serialize_station-returns-clause-serialized
-serialize_station-returns-clause-serialized g t c = (written_as (station_has_keys c.args.value.now) (station_means c.args.value.now) refl (serialized_record station_definitions station_shape station_part_definitions station_parts station_has_parts _ _ _ _ _ (serialized_part no_definition (both station_definitions (both station_definitions no_definition)) (leaf (number_kind unsigned w32)) (part (weak rc_flavor (one line_shape)) (part (vec (weak rc_flavor (one station_shape))) no_part)) [] ((option_keys (λ s. (rc_keys s.key (one line_shape) 0 (line_meaning s.value.value) (line_keys s.value.value))) (out-Station c.args.value.now).line.value) ++ ((each_keys (λ y. (option_keys (λ s. (rc_keys s.key (one station_shape) 0 (station_meaning s.value.value) (station_keys s.value.value))) y.value)) (out-Station c.args.value.now).before.items) ++ [])) (number (pos (out-Station c.args.value.now).id)) (value (weak_value (λ s. (shared_value s.key)) (out-Station c.args.value.now).line.value) (value (list (each_meaning (λ y. (weak_value (λ s. (shared_value s.key)) y.value)) (out-Station c.args.value.now).before.items)) no_value)) _ _ _ _ _ c.in-Ok.ensures.serialized (serialized_part station_definitions (both station_definitions no_definition) (weak rc_flavor (one line_shape)) (part (vec (weak rc_flavor (one station_shape))) no_part) (option_keys (λ s. (rc_keys s.key (one line_shape) 0 (line_meaning s.value.value) (line_keys s.value.value))) (out-Station c.args.value.now).line.value) ((each_keys (λ y. (option_keys (λ s. (rc_keys s.key (one station_shape) 0 (station_meaning s.value.value) (station_keys s.value.value))) y.value)) (out-Station c.args.value.now).before.items) ++ []) (weak_value (λ s. (shared_value s.key)) (out-Station c.args.value.now).line.value) (value (list (each_meaning (λ y. (weak_value (λ s. (shared_value s.key)) y.value)) (out-Station c.args.value.now).before.items)) no_value) _ _ _ _ _ c.in-Ok-serialize_weak_shared_line.ensures.serialized (serialized_part station_definitions no_definition (vec (weak rc_flavor (one station_shape))) no_part (each_keys (λ y. (option_keys (λ s. (rc_keys s.key (one station_shape) 0 (station_meaning s.value.value) (station_keys s.value.value))) y.value)) (out-Station c.args.value.now).before.items) [] (list (each_meaning (λ y. (weak_value (λ s. (shared_value s.key)) y.value)) (out-Station c.args.value.now).before.items)) no_value _ _ _ _ _ c.in-Ok-serialize_vec_weak_shared_station.ensures.serialized (serialized_no_part no_definition _))))))
+pub serialize_whole_station-returns-clause-serialized : goal.serialize_whole_station-returns-clause-serialized
+serialize_whole_station-returns-clause-serialized g t c = (written_as (station_has_keys c.args.value.now) (station_means c.args.value.now) refl (serialized_record station_definitions station_shape station_part_definitions station_parts station_has_parts _ _ _ _ _ (serialized_part no_definition (both station_definitions (both station_definitions no_definition)) (leaf (number_kind unsigned w32)) (part (weak rc_flavor (one line_shape)) (part (vec (weak rc_flavor (one station_shape))) no_part)) [] ((option_keys (λ s. (rc_keys s.key (one line_shape) 0 (line_meaning s.value.value) (line_keys s.value.value))) (out-Station c.args.value.now).line.value) ++ ((each_keys (λ y. (option_keys (λ s. (rc_keys s.key (one station_shape) 0 (station_meaning s.value.value) (station_keys s.value.value))) y.value)) (out-Station c.args.value.now).before.items) ++ [])) (number (pos (out-Station c.args.value.now).id)) (value (weak_value (λ s. (shared_value s.key)) (out-Station c.args.value.now).line.value) (value (list (each_meaning (λ y. (weak_value (λ s. (shared_value s.key)) y.value)) (out-Station c.args.value.now).before.items)) no_value)) _ _ _ _ _ c.in-Ok.ensures.serialized (serialized_part station_definitions (both station_definitions no_definition) (weak rc_flavor (one line_shape)) (part (vec (weak rc_flavor (one station_shape))) no_part) (option_keys (λ s. (rc_keys s.key (one line_shape) 0 (line_meaning s.value.value) (line_keys s.value.value))) (out-Station c.args.value.now).line.value) ((each_keys (λ y. (option_keys (λ s. (rc_keys s.key (one station_shape) 0 (station_meaning s.value.value) (station_keys s.value.value))) y.value)) (out-Station c.args.value.now).before.items) ++ []) (weak_value (λ s. (shared_value s.key)) (out-Station c.args.value.now).line.value) (value (list (each_meaning (λ y. (weak_value (λ s. (shared_value s.key)) y.value)) (out-Station c.args.value.now).before.items)) no_value) _ _ _ _ _ c.in-Ok-serialize_weak_shared_line.ensures.serialized (serialized_part station_definitions no_definition (vec (weak rc_flavor (one station_shape))) no_part (each_keys (λ y. (option_keys (λ s. (rc_keys s.key (one station_shape) 0 (station_meaning s.value.value) (station_keys s.value.value))) y.value)) (out-Station c.args.value.now).before.items) [] (list (each_meaning (λ y. (weak_value (λ s. (shared_value s.key)) y.value)) (out-Station c.args.value.now).before.items)) no_value _ _ _ _ _ c.in-Ok-serialize_vec_weak_shared_station.ensures.serialized (serialized_no_part no_definition _))))))
 
-pub serialize_station-returns-clause-goes_on : goal.serialize_station-returns-clause-goes_on
-serialize_station-returns-clause-goes_on g t c = (goes_both _ _ _ (goes_both _ _ _ c.serialize_part.ensures.goes_on c.serialize_weak_shared_line.ensures.goes_on) c.serialize_vec_weak_shared_station.ensures.goes_on)
+pub serialize_whole_station-returns-clause-goes_on : goal.serialize_whole_station-returns-clause-goes_on
+serialize_whole_station-returns-clause-goes_on g t c = (goes_both _ _ _ (goes_both _ _ _ c.serialize_part.ensures.goes_on c.serialize_weak_shared_line.ensures.goes_on) c.serialize_vec_weak_shared_station.ensures.goes_on)

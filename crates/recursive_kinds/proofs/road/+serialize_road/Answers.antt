@@ -155,29 +155,29 @@ serialize_road_way-returns-clause-serialized g t c = (serialized_variant road_de
 pub serialize_road_way-returns-clause-goes_on : goal.serialize_road_way-returns-clause-goes_on
 serialize_road_way-returns-clause-goes_on g t c = (goes_both _ _ _ c.serialize_part.ensures.goes_on c.serialize_option_shared_road.ensures.goes_on)
 
-pub serialize_road-returns-in-Ok-clause-serialized : goal.serialize_road-returns-in-Ok-clause-serialized
-serialize_road-returns-in-Ok-clause-serialized g t c = rw c.in-Way.is (written_as (road_way_has_keys c.in-Way.a0 c.in-Way.a1) (road_way_means c.in-Way.a0 c.in-Way.a1) (rw (road_way_opens c.in-Way.a0 c.in-Way.a1) refl) c.in-Ok.ensures.serialized)
+pub serialize_whole_road-returns-in-Ok-clause-serialized : goal.serialize_whole_road-returns-in-Ok-clause-serialized
+serialize_whole_road-returns-in-Ok-clause-serialized g t c = rw c.in-Way.is (written_as (road_way_has_keys c.in-Way.a0 c.in-Way.a1) (road_way_means c.in-Way.a0 c.in-Way.a1) (rw (road_way_opens c.in-Way.a0 c.in-Way.a1) refl) c.in-Ok.ensures.serialized)
 
-pub serialize_road-returns-in-Ok-clause-same_value : goal.serialize_road-returns-in-Ok-clause-same_value
-serialize_road-returns-in-Ok-clause-same_value g t c = rw (c.in-Way.is, road_way_opens c.in-Way.a0 c.in-Way.a1) c.in-Ok.ensures.same_values
+pub serialize_whole_road-returns-in-Ok-clause-same_value : goal.serialize_whole_road-returns-in-Ok-clause-same_value
+serialize_whole_road-returns-in-Ok-clause-same_value g t c = rw (c.in-Way.is, road_way_opens c.in-Way.a0 c.in-Way.a1) c.in-Ok.ensures.same_values
 
-pub serialize_road-returns-in-Err-clause-refused : goal.serialize_road-returns-in-Err-clause-refused
-serialize_road-returns-in-Err-clause-refused g t c = rw c.in-Way.is (refused_as (road_way_has_keys c.in-Way.a0 c.in-Way.a1) (road_way_means c.in-Way.a0 c.in-Way.a1) c.in-Err.ensures.refused)
+pub serialize_whole_road-returns-in-Err-clause-refused : goal.serialize_whole_road-returns-in-Err-clause-refused
+serialize_whole_road-returns-in-Err-clause-refused g t c = rw c.in-Way.is (refused_as (road_way_has_keys c.in-Way.a0 c.in-Way.a1) (road_way_means c.in-Way.a0 c.in-Way.a1) c.in-Err.ensures.refused)
 
-pub serialize_road-returns-in-Err-serialize_shared_road-clause-refused : goal.serialize_road-returns-in-Err-serialize_shared_road-clause-refused
-serialize_road-returns-in-Err-serialize_shared_road-clause-refused g t c = rw c.in-Detour.is (refused_as (road_detour_has_keys c.in-Detour.a0 c.in-Detour.a1) (road_detour_means c.in-Detour.a0 c.in-Detour.a1) (variant_refused road_definitions road_shape road_name road_variant_definitions road_variants road_has_variants 1 road_detour_parts refl road_detour_definitions refl _ _ _ _ _ (first_refused road_definitions (both road_definitions no_definition) (shared rc_flavor (one road_shape)) (part (weak rc_flavor (one road_shape)) no_part) (rc_keys c.in-Detour.a0.key (one road_shape) 0 (road_meaning c.in-Detour.a0.value.value) (road_keys c.in-Detour.a0.value.value)) ((option_keys (λ s. (rc_keys s.key (one road_shape) 0 (road_meaning s.value.value) (road_keys s.value.value))) c.in-Detour.a1.value) ++ []) (shared_value c.in-Detour.a0.key) (value (weak_value (λ s. (shared_value s.key)) c.in-Detour.a1.value) no_value) _ _ _ (part_planned road_definitions (weak rc_flavor (one road_shape)) (option_keys (λ s. (rc_keys s.key (one road_shape) 0 (road_meaning s.value.value) (road_keys s.value.value))) c.in-Detour.a1.value) (weak_value (λ s. (shared_value s.key)) c.in-Detour.a1.value) (weak_planned road_definitions rc_flavor (one road_shape) (λ s. (rc_keys s.key (one road_shape) 0 (road_meaning s.value.value) (road_keys s.value.value))) (λ s. (shared_value s.key)) (λ s. (rc_one_planned road_definitions s.key (one road_shape) road_shape refl _ _ (road_planned s.value.value))) c.in-Detour.a1.value) no_part_planned) c.in-Err-serialize_shared_road.ensures.refused)))
+pub serialize_whole_road-returns-in-Err-serialize_shared_road-clause-refused : goal.serialize_whole_road-returns-in-Err-serialize_shared_road-clause-refused
+serialize_whole_road-returns-in-Err-serialize_shared_road-clause-refused g t c = rw c.in-Detour.is (refused_as (road_detour_has_keys c.in-Detour.a0 c.in-Detour.a1) (road_detour_means c.in-Detour.a0 c.in-Detour.a1) (variant_refused road_definitions road_shape road_name road_variant_definitions road_variants road_has_variants 1 road_detour_parts refl road_detour_definitions refl _ _ _ _ _ (first_refused road_definitions (both road_definitions no_definition) (shared rc_flavor (one road_shape)) (part (weak rc_flavor (one road_shape)) no_part) (rc_keys c.in-Detour.a0.key (one road_shape) 0 (road_meaning c.in-Detour.a0.value.value) (road_keys c.in-Detour.a0.value.value)) ((option_keys (λ s. (rc_keys s.key (one road_shape) 0 (road_meaning s.value.value) (road_keys s.value.value))) c.in-Detour.a1.value) ++ []) (shared_value c.in-Detour.a0.key) (value (weak_value (λ s. (shared_value s.key)) c.in-Detour.a1.value) no_value) _ _ _ (part_planned road_definitions (weak rc_flavor (one road_shape)) (option_keys (λ s. (rc_keys s.key (one road_shape) 0 (road_meaning s.value.value) (road_keys s.value.value))) c.in-Detour.a1.value) (weak_value (λ s. (shared_value s.key)) c.in-Detour.a1.value) (weak_planned road_definitions rc_flavor (one road_shape) (λ s. (rc_keys s.key (one road_shape) 0 (road_meaning s.value.value) (road_keys s.value.value))) (λ s. (shared_value s.key)) (λ s. (rc_one_planned road_definitions s.key (one road_shape) road_shape refl _ _ (road_planned s.value.value))) c.in-Detour.a1.value) no_part_planned) c.in-Err-serialize_shared_road.ensures.refused)))
 
-pub serialize_road-returns-in-Err-serialize_weak_shared_road-clause-refused : goal.serialize_road-returns-in-Err-serialize_weak_shared_road-clause-refused
-serialize_road-returns-in-Err-serialize_weak_shared_road-clause-refused g t c = rw c.in-Detour.is (refused_as (road_detour_has_keys c.in-Detour.a0 c.in-Detour.a1) (road_detour_means c.in-Detour.a0 c.in-Detour.a1) (variant_refused road_definitions road_shape road_name road_variant_definitions road_variants road_has_variants 1 road_detour_parts refl road_detour_definitions refl _ _ _ _ _ (later_refused road_definitions (both road_definitions no_definition) (shared rc_flavor (one road_shape)) (part (weak rc_flavor (one road_shape)) no_part) (rc_keys c.in-Detour.a0.key (one road_shape) 0 (road_meaning c.in-Detour.a0.value.value) (road_keys c.in-Detour.a0.value.value)) ((option_keys (λ s. (rc_keys s.key (one road_shape) 0 (road_meaning s.value.value) (road_keys s.value.value))) c.in-Detour.a1.value) ++ []) (shared_value c.in-Detour.a0.key) (value (weak_value (λ s. (shared_value s.key)) c.in-Detour.a1.value) no_value) _ _ _ _ _ c.in-Ok-serialize_shared_road.ensures.serialized c.serialize_shared_road.ensures.goes_on c.serialize_weak_shared_road.ensures.goes_on (first_refused road_definitions no_definition (weak rc_flavor (one road_shape)) no_part (option_keys (λ s. (rc_keys s.key (one road_shape) 0 (road_meaning s.value.value) (road_keys s.value.value))) c.in-Detour.a1.value) [] (weak_value (λ s. (shared_value s.key)) c.in-Detour.a1.value) no_value _ _ _ no_part_planned c.in-Err-serialize_weak_shared_road.ensures.refused))))
+pub serialize_whole_road-returns-in-Err-serialize_weak_shared_road-clause-refused : goal.serialize_whole_road-returns-in-Err-serialize_weak_shared_road-clause-refused
+serialize_whole_road-returns-in-Err-serialize_weak_shared_road-clause-refused g t c = rw c.in-Detour.is (refused_as (road_detour_has_keys c.in-Detour.a0 c.in-Detour.a1) (road_detour_means c.in-Detour.a0 c.in-Detour.a1) (variant_refused road_definitions road_shape road_name road_variant_definitions road_variants road_has_variants 1 road_detour_parts refl road_detour_definitions refl _ _ _ _ _ (later_refused road_definitions (both road_definitions no_definition) (shared rc_flavor (one road_shape)) (part (weak rc_flavor (one road_shape)) no_part) (rc_keys c.in-Detour.a0.key (one road_shape) 0 (road_meaning c.in-Detour.a0.value.value) (road_keys c.in-Detour.a0.value.value)) ((option_keys (λ s. (rc_keys s.key (one road_shape) 0 (road_meaning s.value.value) (road_keys s.value.value))) c.in-Detour.a1.value) ++ []) (shared_value c.in-Detour.a0.key) (value (weak_value (λ s. (shared_value s.key)) c.in-Detour.a1.value) no_value) _ _ _ _ _ c.in-Ok-serialize_shared_road.ensures.serialized c.serialize_shared_road.ensures.goes_on c.serialize_weak_shared_road.ensures.goes_on (first_refused road_definitions no_definition (weak rc_flavor (one road_shape)) no_part (option_keys (λ s. (rc_keys s.key (one road_shape) 0 (road_meaning s.value.value) (road_keys s.value.value))) c.in-Detour.a1.value) [] (weak_value (λ s. (shared_value s.key)) c.in-Detour.a1.value) no_value _ _ _ no_part_planned c.in-Err-serialize_weak_shared_road.ensures.refused))))
 
-pub serialize_road-returns-in-Err-serialize_weak_shared_road-clause-goes_on : goal.serialize_road-returns-in-Err-serialize_weak_shared_road-clause-goes_on
-serialize_road-returns-in-Err-serialize_weak_shared_road-clause-goes_on g t c = (goes_both _ _ _ c.serialize_shared_road.ensures.goes_on c.serialize_weak_shared_road.ensures.goes_on)
+pub serialize_whole_road-returns-in-Err-serialize_weak_shared_road-clause-goes_on : goal.serialize_whole_road-returns-in-Err-serialize_weak_shared_road-clause-goes_on
+serialize_whole_road-returns-in-Err-serialize_weak_shared_road-clause-goes_on g t c = (goes_both _ _ _ c.serialize_shared_road.ensures.goes_on c.serialize_weak_shared_road.ensures.goes_on)
 
-pub serialize_road-returns-in-Ok-serialize_weak_shared_road-clause-serialized : goal.serialize_road-returns-in-Ok-serialize_weak_shared_road-clause-serialized
-serialize_road-returns-in-Ok-serialize_weak_shared_road-clause-serialized g t c = rw c.in-Detour.is (written_as (road_detour_has_keys c.in-Detour.a0 c.in-Detour.a1) (road_detour_means c.in-Detour.a0 c.in-Detour.a1) (rw (road_detour_opens c.in-Detour.a0 c.in-Detour.a1) refl) (serialized_variant road_definitions road_shape road_name road_variant_definitions road_variants road_has_variants 1 road_detour_parts refl road_detour_definitions refl _ _ _ _ _ (serialized_part road_definitions (both road_definitions no_definition) (shared rc_flavor (one road_shape)) (part (weak rc_flavor (one road_shape)) no_part) (rc_keys c.in-Detour.a0.key (one road_shape) 0 (road_meaning c.in-Detour.a0.value.value) (road_keys c.in-Detour.a0.value.value)) ((option_keys (λ s. (rc_keys s.key (one road_shape) 0 (road_meaning s.value.value) (road_keys s.value.value))) c.in-Detour.a1.value) ++ []) (shared_value c.in-Detour.a0.key) (value (weak_value (λ s. (shared_value s.key)) c.in-Detour.a1.value) no_value) _ _ _ _ _ c.in-Ok-serialize_shared_road.ensures.serialized (serialized_part road_definitions no_definition (weak rc_flavor (one road_shape)) no_part (option_keys (λ s. (rc_keys s.key (one road_shape) 0 (road_meaning s.value.value) (road_keys s.value.value))) c.in-Detour.a1.value) [] (weak_value (λ s. (shared_value s.key)) c.in-Detour.a1.value) no_value _ _ _ _ _ c.in-Ok-serialize_weak_shared_road.ensures.serialized (serialized_no_part no_definition _)))))
+pub serialize_whole_road-returns-in-Ok-serialize_weak_shared_road-clause-serialized : goal.serialize_whole_road-returns-in-Ok-serialize_weak_shared_road-clause-serialized
+serialize_whole_road-returns-in-Ok-serialize_weak_shared_road-clause-serialized g t c = rw c.in-Detour.is (written_as (road_detour_has_keys c.in-Detour.a0 c.in-Detour.a1) (road_detour_means c.in-Detour.a0 c.in-Detour.a1) (rw (road_detour_opens c.in-Detour.a0 c.in-Detour.a1) refl) (serialized_variant road_definitions road_shape road_name road_variant_definitions road_variants road_has_variants 1 road_detour_parts refl road_detour_definitions refl _ _ _ _ _ (serialized_part road_definitions (both road_definitions no_definition) (shared rc_flavor (one road_shape)) (part (weak rc_flavor (one road_shape)) no_part) (rc_keys c.in-Detour.a0.key (one road_shape) 0 (road_meaning c.in-Detour.a0.value.value) (road_keys c.in-Detour.a0.value.value)) ((option_keys (λ s. (rc_keys s.key (one road_shape) 0 (road_meaning s.value.value) (road_keys s.value.value))) c.in-Detour.a1.value) ++ []) (shared_value c.in-Detour.a0.key) (value (weak_value (λ s. (shared_value s.key)) c.in-Detour.a1.value) no_value) _ _ _ _ _ c.in-Ok-serialize_shared_road.ensures.serialized (serialized_part road_definitions no_definition (weak rc_flavor (one road_shape)) no_part (option_keys (λ s. (rc_keys s.key (one road_shape) 0 (road_meaning s.value.value) (road_keys s.value.value))) c.in-Detour.a1.value) [] (weak_value (λ s. (shared_value s.key)) c.in-Detour.a1.value) no_value _ _ _ _ _ c.in-Ok-serialize_weak_shared_road.ensures.serialized (serialized_no_part no_definition _)))))
 
-pub serialize_road-returns-in-Ok-serialize_weak_shared_road-clause-goes_on : goal.serialize_road-returns-in-Ok-serialize_weak_shared_road-clause-goes_on
-serialize_road-returns-in-Ok-serialize_weak_shared_road-clause-goes_on g t c = (goes_both _ _ _ c.serialize_shared_road.ensures.goes_on c.serialize_weak_shared_road.ensures.goes_on)
+pub serialize_whole_road-returns-in-Ok-serialize_weak_shared_road-clause-goes_on : goal.serialize_whole_road-returns-in-Ok-serialize_weak_shared_road-clause-goes_on
+serialize_whole_road-returns-in-Ok-serialize_weak_shared_road-clause-goes_on g t c = (goes_both _ _ _ c.serialize_shared_road.ensures.goes_on c.serialize_weak_shared_road.ensures.goes_on)
 
-pub serialize_road-returns-in-Ok-serialize_weak_shared_road-clause-same_value : goal.serialize_road-returns-in-Ok-serialize_weak_shared_road-clause-same_value
-serialize_road-returns-in-Ok-serialize_weak_shared_road-clause-same_value g t c = rw (c.in-Detour.is, road_detour_opens c.in-Detour.a0 c.in-Detour.a1) (c.in-Ok-serialize_shared_road.ensures.same_value, (c.in-Ok-serialize_weak_shared_road.ensures.same_value, tt))
+pub serialize_whole_road-returns-in-Ok-serialize_weak_shared_road-clause-same_value : goal.serialize_whole_road-returns-in-Ok-serialize_weak_shared_road-clause-same_value
+serialize_whole_road-returns-in-Ok-serialize_weak_shared_road-clause-same_value g t c = rw (c.in-Detour.is, road_detour_opens c.in-Detour.a0 c.in-Detour.a1) (c.in-Ok-serialize_shared_road.ensures.same_value, (c.in-Ok-serialize_weak_shared_road.ensures.same_value, tt))

@@ -2,8 +2,10 @@
 use Rattle.archive_core.proofs.Runs.{Continues}
 use Rattle.recursive_types.specs.ExprMeaning.{expr_meaning, expr_keys, expr_flat, expr_belongs}
 use Rattle.recursive_types.specs.ExprShape.{expr_shape, expr_definitions}
-use Rattle.std.proofs.Common.{drop}
+use Rattle.std.proofs.Common.{◌≡◌, ◌≤◌, length, drop}
+use Rattle.std.specs.Prelude.{◌≡◌, ◌≤◌, length}
+use Rattle.std.specs.Vec.{vec_len, vec_capacity}
 use Rattle.recursive_types.proofs.expr.+serialize_expr.Given as goal
 
 abbrev pub invariant-serialize_each_expr-loop-value : goal.invariant-serialize_each_expr-loop-value
-invariant-serialize_each_expr-loop-value g l = record { continues : Continues expr_definitions expr_shape expr_keys expr_meaning expr_flat expr_belongs (g.S.Keys.state l.initial.serializer) (g.S.Keys.state l.serializer) l.values (drop l.value-index l.values) l.resolvers.items }
+invariant-serialize_each_expr-loop-value g l = record { continues : Continues expr_definitions expr_shape expr_keys expr_meaning expr_flat expr_belongs (g.S.Keys.state l.initial.serializer) (g.S.Keys.state l.serializer) l.values (drop l.value-index l.values) l.resolvers.items; reserved : (vec_len l.resolvers ≡ l.value-index) × (length l.values ≤ vec_capacity l.resolvers) }

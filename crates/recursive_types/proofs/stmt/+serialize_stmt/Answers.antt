@@ -31,14 +31,8 @@ serialize_each_stmt-returns-in-Err-clause-goes_on g t c = goes_both _ _ _ c.loop
 pub serialize_each_stmt-returns-in-Err-clause-refused : goal.serialize_each_stmt-returns-in-Err-clause-refused
 serialize_each_stmt-returns-in-Err-clause-refused g t c = rw c.handed_on.ensures (continues_broken _ _ _ _ _ _ _ _ _ _ c.loop-value.value-index _ _ _ c.loop-value-test.true c.value-item.is stmt_planned c.loop-value.invariant.continues c.serialize_stmt.ensures.goes_on c.in-Err.ensures.refused)
 
-pub serialize_each_stmt-returns-in_err-map_err-clause-goes_on : goal.serialize_each_stmt-returns-in_err-map_err-clause-goes_on
-serialize_each_stmt-returns-in_err-map_err-clause-goes_on g t c = goes_both _ _ _ c.loop-value.invariant.continues.goes c.serialize_stmt.ensures.goes_on
-
-pub serialize_each_stmt-returns-in_err-map_err-clause-refused : goal.serialize_each_stmt-returns-in_err-map_err-clause-refused
-serialize_each_stmt-returns-in_err-map_err-clause-refused g t c = err_by c.from_residual-in_err-map_err.result OutOfMemory _ c.from_residual-in_err-map_err.ensures.1 no_memory
-
 pub serialize_each_stmt-loop-value-preserved : goal.serialize_each_stmt-loop-value-preserved
-serialize_each_stmt-loop-value-preserved g t c = record { continues = continues_step _ _ _ _ _ _ _ _ _ _ c.loop-value.value-index _ _ _ c.in-Ok.resolver c.loop-value-test.true c.value-item.is (grind (arith, common_steps)) c.loop-value.invariant.continues c.in-Ok.ensures.serialized c.in-Ok.ensures.same_value c.serialize_stmt.ensures.goes_on }
+serialize_each_stmt-loop-value-preserved g t c = record { continues = continues_step _ _ _ _ _ _ _ _ _ _ c.loop-value.value-index _ _ _ c.in-Ok.resolver c.loop-value-test.true c.value-item.is (grind (arith, common_steps)) c.loop-value.invariant.continues c.in-Ok.ensures.serialized c.in-Ok.ensures.same_value c.serialize_stmt.ensures.goes_on; reserved = (grind (arith, common_steps, c.loop-value.invariant.reserved.0), grind (arith, common_steps, c.loop-value.invariant.reserved.1)) }
 
 pub serialize_each_stmt-returns-clause-serialized : goal.serialize_each_stmt-returns-clause-serialized
 serialize_each_stmt-returns-clause-serialized g t c = continues_end _ _ _ _ _ _ _ _ _ _ _ (drop_of_length-le _ c.loop-value-test.false) c.loop-value.invariant.continues
@@ -52,17 +46,17 @@ serialize_vec_stmt-returns-then-len-clause-refused g t c = (let long : 429496729
 pub serialize_vec_stmt-returns-in-Err-clause-refused : goal.serialize_vec_stmt-returns-in-Err-clause-refused
 serialize_vec_stmt-returns-in-Err-clause-refused g t c = vec_refused stmt_definitions stmt_shape (length c.args.value.now.items) (each_keys stmt_keys c.args.value.now.items) (list (each_meaning stmt_meaning c.args.value.now.items)) _ _ _ (run_owned stmt_definitions stmt_shape (length c.args.value.now.items) (each_keys stmt_keys c.args.value.now.items) (each_meaning stmt_meaning c.args.value.now.items) _ _ _ (rw c.as_slice-items.ensures.value at c.in-Err.ensures.refused))
 
-pub serialize_vec_stmt-returns-in-Ok-serialize_inner_slice-clause-serialized : goal.serialize_vec_stmt-returns-in-Ok-serialize_inner_slice-clause-serialized
-serialize_vec_stmt-returns-in-Ok-serialize_inner_slice-clause-serialized g t c = (rw c.as_slice-items.ensures.value at c.in-Ok-serialize_inner_slice.ensures.listed).since _ c.serialize_each_stmt.ensures.goes_on (rw c.as_slice-items.ensures.value at c.in-Ok.ensures.serialized)
+pub serialize_vec_stmt-returns-in-Ok-serialize_run_of_stmt-clause-serialized : goal.serialize_vec_stmt-returns-in-Ok-serialize_run_of_stmt-clause-serialized
+serialize_vec_stmt-returns-in-Ok-serialize_run_of_stmt-clause-serialized g t c = (rw c.as_slice-items.ensures.value at c.in-Ok-serialize_run_of_stmt.ensures.listed).since _ c.serialize_each_stmt.ensures.goes_on (rw c.as_slice-items.ensures.value at c.in-Ok.ensures.serialized)
 
-pub serialize_vec_stmt-returns-in-Ok-serialize_inner_slice-clause-goes_on : goal.serialize_vec_stmt-returns-in-Ok-serialize_inner_slice-clause-goes_on
-serialize_vec_stmt-returns-in-Ok-serialize_inner_slice-clause-goes_on g t c = (goes_both _ _ _ c.serialize_each_stmt.ensures.goes_on c.serialize_inner_slice.ensures.goes_on)
+pub serialize_vec_stmt-returns-in-Ok-serialize_run_of_stmt-clause-goes_on : goal.serialize_vec_stmt-returns-in-Ok-serialize_run_of_stmt-clause-goes_on
+serialize_vec_stmt-returns-in-Ok-serialize_run_of_stmt-clause-goes_on g t c = (goes_both _ _ _ c.serialize_each_stmt.ensures.goes_on c.serialize_run_of_stmt.ensures.goes_on)
 
-pub serialize_vec_stmt-returns-in-Err-serialize_inner_slice-clause-goes_on : goal.serialize_vec_stmt-returns-in-Err-serialize_inner_slice-clause-goes_on
-serialize_vec_stmt-returns-in-Err-serialize_inner_slice-clause-goes_on g t c = (goes_both _ _ _ c.serialize_each_stmt.ensures.goes_on c.serialize_inner_slice.ensures.goes_on)
+pub serialize_vec_stmt-returns-in-Err-serialize_run_of_stmt-clause-goes_on : goal.serialize_vec_stmt-returns-in-Err-serialize_run_of_stmt-clause-goes_on
+serialize_vec_stmt-returns-in-Err-serialize_run_of_stmt-clause-goes_on g t c = (goes_both _ _ _ c.serialize_each_stmt.ensures.goes_on c.serialize_run_of_stmt.ensures.goes_on)
 
-pub serialize_vec_stmt-returns-in-Err-serialize_inner_slice-clause-refused : goal.serialize_vec_stmt-returns-in-Err-serialize_inner_slice-clause-refused
-serialize_vec_stmt-returns-in-Err-serialize_inner_slice-clause-refused g t c = (rw c.as_slice-items.ensures.value at c.in-Err-serialize_inner_slice.ensures.refused).since _ c.serialize_each_stmt.ensures.goes_on (rw c.as_slice-items.ensures.value at c.in-Ok.ensures.serialized)
+pub serialize_vec_stmt-returns-in-Err-serialize_run_of_stmt-clause-refused : goal.serialize_vec_stmt-returns-in-Err-serialize_run_of_stmt-clause-refused
+serialize_vec_stmt-returns-in-Err-serialize_run_of_stmt-clause-refused g t c = (rw c.as_slice-items.ensures.value at c.in-Err-serialize_run_of_stmt.ensures.refused).since _ c.serialize_each_stmt.ensures.goes_on (rw c.as_slice-items.ensures.value at c.in-Ok.ensures.serialized)
 
 pub serialize_stmt_block-returns-in-Err-clause-refused : goal.serialize_stmt_block-returns-in-Err-clause-refused
 serialize_stmt_block-returns-in-Err-clause-refused g t c = (variant_refused stmt_definitions stmt_shape stmt_name stmt_variant_definitions stmt_variants stmt_has_variants 1 stmt_block_parts refl stmt_block_definitions refl _ _ _ _ _ (first_refused stmt_definitions no_definition (vec stmt_shape) no_part (each_keys stmt_keys c.args.a0.now.items) [] (list (each_meaning stmt_meaning c.args.a0.now.items)) no_value _ _ _ no_part_planned c.in-Err.ensures.refused))
@@ -70,20 +64,20 @@ serialize_stmt_block-returns-in-Err-clause-refused g t c = (variant_refused stmt
 pub serialize_stmt_block-returns-clause-serialized : goal.serialize_stmt_block-returns-clause-serialized
 serialize_stmt_block-returns-clause-serialized g t c = (serialized_variant stmt_definitions stmt_shape stmt_name stmt_variant_definitions stmt_variants stmt_has_variants 1 stmt_block_parts refl stmt_block_definitions refl _ _ _ _ _ (serialized_part stmt_definitions no_definition (vec stmt_shape) no_part (each_keys stmt_keys c.args.a0.now.items) [] (list (each_meaning stmt_meaning c.args.a0.now.items)) no_value _ _ _ _ _ c.in-Ok.ensures.serialized (serialized_no_part no_definition _)))
 
-pub serialize_stmt-returns-in-Ok-clause-serialized : goal.serialize_stmt-returns-in-Ok-clause-serialized
-serialize_stmt-returns-in-Ok-clause-serialized g t c = rw c.in-Set.is (written_as (stmt_set_has_keys c.in-Set.a0 c.in-Set.a1) (stmt_set_means c.in-Set.a0 c.in-Set.a1) (rw (stmt_set_opens c.in-Set.a0 c.in-Set.a1) refl) c.in-Ok.ensures.serialized)
+pub serialize_whole_stmt-returns-in-Ok-clause-serialized : goal.serialize_whole_stmt-returns-in-Ok-clause-serialized
+serialize_whole_stmt-returns-in-Ok-clause-serialized g t c = rw c.in-Set.is (written_as (stmt_set_has_keys c.in-Set.a0 c.in-Set.a1) (stmt_set_means c.in-Set.a0 c.in-Set.a1) (rw (stmt_set_opens c.in-Set.a0 c.in-Set.a1) refl) c.in-Ok.ensures.serialized)
 
-pub serialize_stmt-returns-in-Ok-clause-same_value : goal.serialize_stmt-returns-in-Ok-clause-same_value
-serialize_stmt-returns-in-Ok-clause-same_value g t c = rw (c.in-Set.is, stmt_set_opens c.in-Set.a0 c.in-Set.a1) c.in-Ok.ensures.same_values
+pub serialize_whole_stmt-returns-in-Ok-clause-same_value : goal.serialize_whole_stmt-returns-in-Ok-clause-same_value
+serialize_whole_stmt-returns-in-Ok-clause-same_value g t c = rw (c.in-Set.is, stmt_set_opens c.in-Set.a0 c.in-Set.a1) c.in-Ok.ensures.same_values
 
-pub serialize_stmt-returns-in-Err-clause-refused : goal.serialize_stmt-returns-in-Err-clause-refused
-serialize_stmt-returns-in-Err-clause-refused g t c = rw c.in-Set.is (refused_as (stmt_set_has_keys c.in-Set.a0 c.in-Set.a1) (stmt_set_means c.in-Set.a0 c.in-Set.a1) c.in-Err.ensures.refused)
+pub serialize_whole_stmt-returns-in-Err-clause-refused : goal.serialize_whole_stmt-returns-in-Err-clause-refused
+serialize_whole_stmt-returns-in-Err-clause-refused g t c = rw c.in-Set.is (refused_as (stmt_set_has_keys c.in-Set.a0 c.in-Set.a1) (stmt_set_means c.in-Set.a0 c.in-Set.a1) c.in-Err.ensures.refused)
 
-pub serialize_stmt-returns-in-Ok-serialize_stmt_block-clause-serialized : goal.serialize_stmt-returns-in-Ok-serialize_stmt_block-clause-serialized
-serialize_stmt-returns-in-Ok-serialize_stmt_block-clause-serialized g t c = rw c.in-Block.is (written_as (stmt_block_has_keys c.in-Block.a0) (stmt_block_means c.in-Block.a0) (rw (stmt_block_opens c.in-Block.a0) refl) c.in-Ok-serialize_stmt_block.ensures.serialized)
+pub serialize_whole_stmt-returns-in-Ok-serialize_stmt_block-clause-serialized : goal.serialize_whole_stmt-returns-in-Ok-serialize_stmt_block-clause-serialized
+serialize_whole_stmt-returns-in-Ok-serialize_stmt_block-clause-serialized g t c = rw c.in-Block.is (written_as (stmt_block_has_keys c.in-Block.a0) (stmt_block_means c.in-Block.a0) (rw (stmt_block_opens c.in-Block.a0) refl) c.in-Ok-serialize_stmt_block.ensures.serialized)
 
-pub serialize_stmt-returns-in-Ok-serialize_stmt_block-clause-same_value : goal.serialize_stmt-returns-in-Ok-serialize_stmt_block-clause-same_value
-serialize_stmt-returns-in-Ok-serialize_stmt_block-clause-same_value g t c = rw (c.in-Block.is, stmt_block_opens c.in-Block.a0) c.in-Ok-serialize_stmt_block.ensures.same_values
+pub serialize_whole_stmt-returns-in-Ok-serialize_stmt_block-clause-same_value : goal.serialize_whole_stmt-returns-in-Ok-serialize_stmt_block-clause-same_value
+serialize_whole_stmt-returns-in-Ok-serialize_stmt_block-clause-same_value g t c = rw (c.in-Block.is, stmt_block_opens c.in-Block.a0) c.in-Ok-serialize_stmt_block.ensures.same_values
 
-pub serialize_stmt-returns-in-Err-serialize_stmt_block-clause-refused : goal.serialize_stmt-returns-in-Err-serialize_stmt_block-clause-refused
-serialize_stmt-returns-in-Err-serialize_stmt_block-clause-refused g t c = rw c.in-Block.is (refused_as (stmt_block_has_keys c.in-Block.a0) (stmt_block_means c.in-Block.a0) c.in-Err-serialize_stmt_block.ensures.refused)
+pub serialize_whole_stmt-returns-in-Err-serialize_stmt_block-clause-refused : goal.serialize_whole_stmt-returns-in-Err-serialize_stmt_block-clause-refused
+serialize_whole_stmt-returns-in-Err-serialize_stmt_block-clause-refused g t c = rw c.in-Block.is (refused_as (stmt_block_has_keys c.in-Block.a0) (stmt_block_means c.in-Block.a0) c.in-Err-serialize_stmt_block.ensures.refused)

@@ -32,14 +32,8 @@ serialize_each_tree-returns-in-Err-clause-goes_on g t c = goes_both _ _ _ c.loop
 pub serialize_each_tree-returns-in-Err-clause-refused : goal.serialize_each_tree-returns-in-Err-clause-refused
 serialize_each_tree-returns-in-Err-clause-refused g t c = rw c.handed_on.ensures (continues_broken _ _ _ _ _ _ _ _ _ _ c.loop-value.value-index _ _ _ c.loop-value-test.true c.value-item.is tree_planned c.loop-value.invariant.continues c.serialize_tree.ensures.goes_on c.in-Err.ensures.refused)
 
-pub serialize_each_tree-returns-in_err-map_err-clause-goes_on : goal.serialize_each_tree-returns-in_err-map_err-clause-goes_on
-serialize_each_tree-returns-in_err-map_err-clause-goes_on g t c = goes_both _ _ _ c.loop-value.invariant.continues.goes c.serialize_tree.ensures.goes_on
-
-pub serialize_each_tree-returns-in_err-map_err-clause-refused : goal.serialize_each_tree-returns-in_err-map_err-clause-refused
-serialize_each_tree-returns-in_err-map_err-clause-refused g t c = err_by c.from_residual-in_err-map_err.result OutOfMemory _ c.from_residual-in_err-map_err.ensures.1 no_memory
-
 pub serialize_each_tree-loop-value-preserved : goal.serialize_each_tree-loop-value-preserved
-serialize_each_tree-loop-value-preserved g t c = record { continues = continues_step _ _ _ _ _ _ _ _ _ _ c.loop-value.value-index _ _ _ _ c.loop-value-test.true c.value-item.is (grind (arith, common_steps)) c.loop-value.invariant.continues c.in-Ok.ensures.serialized c.in-Ok.ensures.same_value c.serialize_tree.ensures.goes_on }
+serialize_each_tree-loop-value-preserved g t c = record { continues = continues_step _ _ _ _ _ _ _ _ _ _ c.loop-value.value-index _ _ _ _ c.loop-value-test.true c.value-item.is (grind (arith, common_steps)) c.loop-value.invariant.continues c.in-Ok.ensures.serialized c.in-Ok.ensures.same_value c.serialize_tree.ensures.goes_on; reserved = (grind (arith, common_steps, c.loop-value.invariant.reserved.0), grind (arith, common_steps, c.loop-value.invariant.reserved.1)) }
 
 pub serialize_each_tree-returns-clause-serialized : goal.serialize_each_tree-returns-clause-serialized
 serialize_each_tree-returns-clause-serialized g t c = continues_end _ _ _ _ _ _ _ _ _ _ _ (drop_of_length-le _ c.loop-value-test.false) c.loop-value.invariant.continues

@@ -2,8 +2,10 @@
 use Rattle.archive_core.proofs.Runs.{Continues}
 use Rattle.recursive_types.specs.TreeMeaning.{tree_meaning, tree_keys, tree_flat, tree_belongs}
 use Rattle.recursive_types.specs.TreeShape.{tree_shape, tree_definitions}
-use Rattle.std.proofs.Common.{drop}
+use Rattle.std.proofs.Common.{◌≡◌, ◌≤◌, length, drop}
+use Rattle.std.specs.Prelude.{◌≡◌, ◌≤◌, length}
+use Rattle.std.specs.Vec.{vec_len, vec_capacity}
 use Rattle.recursive_types.proofs.tree.+serialize_tree.Given as goal
 
 abbrev pub invariant-serialize_each_tree-loop-value : goal.invariant-serialize_each_tree-loop-value
-invariant-serialize_each_tree-loop-value g l = record { continues : Continues tree_definitions tree_shape tree_keys tree_meaning tree_flat tree_belongs (g.S.Keys.state l.initial.serializer) (g.S.Keys.state l.serializer) l.values (drop l.value-index l.values) l.resolvers.items }
+invariant-serialize_each_tree-loop-value g l = record { continues : Continues tree_definitions tree_shape tree_keys tree_meaning tree_flat tree_belongs (g.S.Keys.state l.initial.serializer) (g.S.Keys.state l.serializer) l.values (drop l.value-index l.values) l.resolvers.items; reserved : (vec_len l.resolvers ≡ l.value-index) × (length l.values ≤ vec_capacity l.resolvers) }
