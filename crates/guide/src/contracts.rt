@@ -6,6 +6,7 @@ ghost use Rattle.archive_core.specs.Seen.{ShowsValue, ShowsValueOf};
 ghost use Rattle.archive_core.specs.Value.{number};
 ghost use Rattle.archive_core.specs.WholeArchives.{MakesArchive};
 
+use crate::entries::{step, viewed};
 use crate::entry::{ArchivedEntry, Entry, EntryView};
 use archive_core::api::to_bytes;
 use archive_core::error::Error;
@@ -13,6 +14,7 @@ use archive_core::primitive::{ArchivedU64, Native};
 use archive_core::traits::{Archive, Portable};
 use archive_core::view::Ref;
 use std::alloc::Global;
+use std::test::Fail;
 
 /// The archive of an entry.
 pub fn archived(alloc: Global, entry: &Entry) -> Result<Vec<u8>, Error>
@@ -34,4 +36,13 @@ pub fn number_in(seconds: Ref<'_, ArchivedU64>) -> u64
     ensures { ShowsValue seconds.entry (number (pos result)) }
 {
     seconds.get()
+}
+
+#[test]
+fn seconds_are_shown(rt: HostRuntime) -> Result<(), Fail> {
+    let bytes = archived(rt.alloc(), &step())?;
+    let entry = viewed(rt.alloc(), &bytes)?;
+    assert_eq!(rt; number_in(seconds_in(entry)), 9);
+
+    Ok(())
 }

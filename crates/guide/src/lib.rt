@@ -5,7 +5,8 @@
 pub use derived_types::{entry, event, spot, track};
 pub use recursive_types::tree;
 
-pub mod contracts;
+#[cfg(test)]
+mod contracts;
 #[cfg(test)]
 mod editing;
 #[cfg(test)]

@@ -2,8 +2,6 @@ pub mod BushMeaning
 pub mod BushShape
 pub mod KnotMeaning
 pub mod KnotShape
-pub mod LineMeaning
-pub mod LineShape
 pub mod RoadMeaning
 pub mod RoadShape
 pub mod RuleMeaning

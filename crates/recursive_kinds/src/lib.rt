@@ -6,6 +6,5 @@ pub mod bag;
 pub mod bush;
 pub mod graph;
 pub mod knot;
-pub mod line;
 pub mod road;
 pub mod rule;

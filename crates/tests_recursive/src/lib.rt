@@ -20,8 +20,6 @@ mod kinds;
 #[cfg(test)]
 mod lengths;
 #[cfg(test)]
-mod lines;
-#[cfg(test)]
 mod long;
 #[cfg(test)]
 mod maps;

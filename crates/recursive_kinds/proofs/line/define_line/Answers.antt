@@ -1,8 +1,0 @@
--- Written by tools/derive: change the declaration, and run it again.
-use Rattle.recursive_kinds.proofs.line.define_line.Goals as goal
-
-pub returns-clause-added : goal.returns-clause-added
-returns-clause-added c = c.define_record.ensures.added _ c.line_expressions.ensures
-
-pub returns-clause-refused : goal.returns-clause-refused
-returns-clause-refused c = c.define_record.ensures.refused _ c.line_expressions.ensures

@@ -1,5 +1,0 @@
--- Written by tools/derive: change the declaration, and run it again.
-use Rattle.recursive_kinds.proofs.line.line_expressions.Goals as goal
-
-pub returns : goal.returns
-returns c = c.first_expression.ensures _ _ c.expression_of.ensures (c.first_expression-rest1.ensures _ _ (c.vec_expression.ensures _ (c.option_expression.ensures _ (c.shared_expression.ensures _ c.named_expression.ensures))) c.no_expressions-rest2.ensures)
