@@ -2,7 +2,7 @@
 
 from typing import Callable, Dict, List, Optional, Sequence, Set
 
-from . import variant_functions
+from . import arrays, variant_functions
 from .formats import POINTERS, snake, substituted
 from .loads import MOST as MOST_LOAD
 from .loads import MOST_OF_VARIANTS, Loads
@@ -218,6 +218,11 @@ def check_arrays(module: Module):
     for it in module.declarations:
         for field in it.all_fields():
             type = field.type
+            if not it.as_tuple and not it.part_by_part:
+                why = arrays.unmade(type)
+                if why:
+                    raise Refused(module.path, type.line, why)
+                continue
             pointer = found_in(type, lambda x: x.own is None and x.name in POINTERS and array_in(x, {"array", "OwnedArray"}))
             if pointer:
                 array = array_in(pointer, {"array", "OwnedArray"})

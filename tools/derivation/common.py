@@ -54,6 +54,16 @@ def ok_arm(values, made, indent):
     return f"{pad}Ok({values}) => {{\n{statement(indent + 4, 'Ok(', made, ')')}{pad}}}\n"
 
 
+def tried_arm(values, call, indent):
+    """The arm of a `match` that makes a value by a call that may fail."""
+    pad = " " * indent
+    return f"""{pad}Ok({values}) => match {call} {{
+{pad}    Ok(value) => Ok(value),
+{pad}    Err(error) => Err(error),
+{pad}}},
+"""
+
+
 def kept_of(formats, types):
     """The argument of a call that is handed the resolvers of these fields: each by its name where they are taken apart."""
     return pair([f"r{i}" for i in range(len(types))]) if are_taken_apart(formats, types) else "kept" if types else "()"

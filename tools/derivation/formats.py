@@ -6,6 +6,7 @@ A term of a law is one at a value: `keyed(type, "v.name")`. Where a law of anoth
 import re
 from dataclasses import replace
 
+from .arrays import Arrays, as_read, is_made
 from .laws import Laws
 from .model import Refused
 
@@ -136,6 +137,7 @@ class Formats(Laws):
         self.ghosts = {}  # a path of specs, and the names of it
         self.laws = {}  # a declaration, and its laws
         self.layouts = {}  # a declaration, and its layout
+        self.arrays = Arrays(self)
 
     # ---- names ----
 
@@ -181,11 +183,7 @@ class Formats(Laws):
 
     def read_as(self, type):
         """The type that a field is read back as: no call returns an array of the machine."""
-        return self.spelled(replace(type, name="OwnedArray", text="")) if self.kind(type) == "array" else self.rust(type)
-
-    def read_value(self, type, name):
-        """The field's value, of what it was read back as."""
-        return f"{name}.into_array()" if self.kind(type) == "array" else name
+        return self.spelled(as_read(type)) if is_made(type) else self.rust(type)
 
     def spelled(self, type):
         """The type by its names, of which those of other modules are brought in."""

@@ -1,17 +1,17 @@
 """Values of many fields, which a function of their own makes of those of their fields, with a proof that is written beside the module."""
 
 from . import blocks
+from .arrays import WRITTEN, is_made, takes_memory
 from .common import chain, infix, numbered
 from .layout import pair, statement
 from .long import names_of, place, places
 
 SIGNED = ("i8", "i16", "i32", "i64", "i128", "isize")
-WRITTEN = "Written by tools/derive: change the declaration, and run it again."
 
 
-def holds_array(types):
-    """Whether a field of these types is an array of the machine, which no call returns."""
-    return any(type.own is None and type.name == "array" for type in types)
+def are_made(types):
+    """Whether a field of these types has an array of the machine, which no call returns."""
+    return any(map(is_made, types))
 
 
 class Made:
@@ -30,6 +30,7 @@ class Made:
         self.owned = owned  # the type of the values
         self.meaning = meaning  # what the meanings of the fields are the meaning of
         self.path = path  # as it is written in code
+        self.takes_memory = any(map(takes_memory, types))
 
     def found_at(self):
         """Where each field's value is in `values`."""
@@ -45,6 +46,12 @@ class Made:
         values = [f"values{place}" for place in self.places]
         meanings = chain("value", [f"({q}.meaning {v})" for q, v in zip(sources, values)], "no_value")
         keys = infix("++", [f"{q}.keys {v}" for q, v in zip(sources, values)], "[]")
+        if self.takes_memory:
+            return f"""// The `{self.path}` of these values, one after another.
+fn {self.name}(alloc: Global, values: {self.owned}) -> Result<{self.of}, Error>
+{self.formats.arrays.outcome(f"⟦<{self.of} as Archive>⟧", f"{self.meaning} {meanings}", keys)}{{
+{self.opened(names)}{self.formats.arrays.opened(self.types, names)}{statement(4, "Ok(", built, ")")}}}
+"""
         return f"""// The `{self.path}` of these values, one after another.
 fn {self.name}(values: {self.owned}) -> {self.of}
     ensures meaning {{ ⟦<{self.of} as Archive>⟧.meaning result ≡ {self.meaning} {meanings} }}
@@ -52,6 +59,10 @@ fn {self.name}(values: {self.owned}) -> {self.of}
 {{
 {self.opened(names)}{statement(4, "", built, "")}}}
 """
+
+    def call(self):
+        """The call that makes a value of `values`: what may be refused."""
+        return f"{self.name}({'alloc, ' if self.takes_memory else ''}values)"
 
     def opened(self, names):
         """The lines that name each of `values`."""
@@ -75,7 +86,7 @@ fn {self.name}(values: {self.owned}) -> {self.of}
             return None
         widths = sorted({width for width, _ in signed})
         lets = "".join(f"    let e{i} : SFits {width} {value} = search rules in\n" for i, (width, value) in enumerate(signed))
-        arrays = [f"c.{call}.ensures" for call in numbered(["into_array" for type in self.types if self.formats.kind(type) == "array"])]
+        arrays = [f"c.{call}.ensures" for call in numbered([self.formats.arrays.called(type) for type in self.types if is_made(type)])]
         steps = ", ".join(arrays + [f"to_z-of_z {width} {value} e{i}" for i, (width, value) in enumerate(signed)])
         return f"""-- {WRITTEN}
 use Rattle.std.proofs.Common.{{◌≡◌, refl, arith, rules}}

@@ -17,13 +17,14 @@ from .common import (
     resolve_head,
     sealed_clauses,
     taken_apart,
+    tried_arm,
     view_clauses,
 )
 from .formats import layout_of, snake
 from .layout import Generic, Group, flat, implementation, literal, pair, signature, statement
 from .loads import Loads
 from .long import as_parts, fields_of, is_long, nest, pattern
-from .made import WRITTEN, Made, holds_array
+from .made import WRITTEN, Made, are_made
 from .pieces import Pieces
 
 
@@ -58,7 +59,7 @@ class Record(Source):
         self.values = [f"v.{field.name}" for field in self.fields]
 
     def built(self):
-        values = [self.formats.read_value(type, name) for type, name in zip(self.types, self.names)]
+        values = [self.formats.arrays.value(type, name) for type, name in zip(self.types, self.names)]
         name = self.declaration.declared_name
         if self.declaration.form == "unit":
             return name
@@ -217,7 +218,7 @@ def serialize(record):
 def is_made_apart(record):
     """Whether a value is made of those of its fields by a function of its own, whose proof is written beside the module: of many fields, or of an array, which
     the check doesn't see to mean what was read back."""
-    return record.count > SHORT_RECORD or bool(record.pieces) or holds_array(record.types)
+    return record.count > SHORT_RECORD or bool(record.pieces) or are_made(record.types)
 
 
 def read(record):
@@ -227,7 +228,8 @@ def read(record):
     if record.pieces:
         call, pieces = pieces_of(record).call(), f"{pieces_of(record).text()}\n"
     if is_made_apart(record):
-        ok = f"            Ok(values) => Ok({snake(record.name)}_of(values)),\n"
+        made = made_of(record)
+        ok = tried_arm("values", made.call(), 12) if made.takes_memory else f"            Ok(values) => Ok({made.call()}),\n"
     else:
         ok = ok_arm(flat(pattern(record.names, record.by_fours)), record.built(), 12)
     impl = deserialize(record, f"""{statement(8, "match ", call, " {")}{ok}            Err(error) => Err(error),

@@ -4,7 +4,10 @@ The evidence of a call over variants has an entry for each pair of a nest, and g
 type with their number, `UnitVariants<250, ()>`. Each arm with a call of the library takes about as long to prove as all arms that return a tag.
 """
 
+from functools import partial
+
 from . import variant_blocks
+from .common import ok_arm
 from .formats import snake
 from .layout import Generic, Group, flat, lay, statement
 
@@ -155,7 +158,7 @@ impl {choice.name}Tag for {choice.name} {{
         if not self.are:
             return []
         call = Generic("serialize_case_0", [self.choice.archived, "S"], [self.tag_call(), "serializer"])
-        return [match_arm("_", call, "()", f"{self.choice.resolver}::{self.name}")]
+        return [match_arm("_", call, partial(ok_arm, "()", f"{self.choice.resolver}::{self.name}"))]
 
     def read_arm(self):
         if not self.are:

@@ -1,12 +1,14 @@
 """The impls of an enum without type parameters."""
 
+from functools import partial
+
 from . import compared, variant_blocks
-from .common import Source, archive_pointee, chain, deserialize, in_turn, infix, kept_of, ok_arm, own_check, portable, region, resolve_head, taken_apart
+from .common import Source, archive_pointee, chain, deserialize, in_turn, infix, kept_of, ok_arm, own_check, portable, region, resolve_head, taken_apart, tried_arm
 from .formats import layout_of, snake
 from .layout import Generic, Group, WIDTH, ended, flat, implementation, lay, literal, pair, statement
 from .loads import Loads
 from .long import is_long, lent, nest, pattern
-from .made import WRITTEN, Made, holds_array
+from .made import WRITTEN, Made, are_made
 from .pieces import Pieces, numbered
 from .units import Units
 from .variant_functions import Functions, are_wanted
@@ -40,7 +42,7 @@ class Case:
         loads = Loads()
         self.by_fours = loads.go_by_fours(self.types)
         self.pieces = () if loads.are_read_at_once(self.types) else loads.pieces(self.types)
-        self.is_made_apart = is_long(self.types) or bool(self.pieces) or holds_array(self.types)
+        self.is_made_apart = is_long(self.types) or bool(self.pieces) or are_made(self.types)
         self.is_long = is_long(self.types)
 
     def its_pieces(self):
@@ -57,7 +59,7 @@ class Case:
 
     def built(self):
         """The variant of what was read back."""
-        return self.pattern([self.choice.formats.read_value(type, name) for type, name in zip(self.types, self.names)])
+        return self.pattern([self.choice.formats.arrays.value(type, name) for type, name in zip(self.types, self.names)])
 
     def bound(self, end=""):
         return " ".join([self.word + end] + self.binders)
@@ -288,17 +290,17 @@ def lending(case, indent):
     return statement(indent, "let lent = ", literal(f"{case.word}Lent", case.names), ";")
 
 
-def match_arm(pattern, call, values, made, first=""):
-    """An arm that answers what a call answers, by another name. `first` are lines before the call."""
+def match_arm(pattern, call, ok, first=""):
+    """An arm that answers what a call answers, by another name: `ok` is its arm where that succeeds. `first` are lines before the call."""
     before = f"{flat(pattern)} => match "
     whole = lay(call, 12, 12 + len(before), 2)
     if not first and 12 + len(before) + len(whole.split("\n")[0]) <= WIDTH:
         return f"""            {before}{ended(whole, 12, " {")}
-{ok_arm(values, made, 16)}                Err(error) => Err(error),
+{ok(16)}                Err(error) => Err(error),
             }},
 """
     return f"""            {flat(pattern)} => {{
-{first}{statement(16, "match ", call, " {")}{ok_arm(values, made, 20)}                    Err(error) => Err(error),
+{first}{statement(16, "match ", call, " {")}{ok(20)}                    Err(error) => Err(error),
                 }}
             }}
 """
@@ -319,7 +321,8 @@ def serialize_arms(choice, number, value):
             arms.append(choice.functions.arm(case, flat(case.pattern()), "serialize", case.names + ["serializer"]))
         else:
             made = f"{choice.resolver}::{case.name}" + ("(kept)" if case.count else "")
-            arms.append(match_arm(case.pattern(), serialize_call(case), "kept" if case.count else "()", made, lending(case, 16)))
+            ok = partial(ok_arm, "kept" if case.count else "()", made)
+            arms.append(match_arm(case.pattern(), serialize_call(case), ok, lending(case, 16)))
     arms += choice.units.serialize_arm(match_arm)
     return "".join(arms) + (choice.functions.groups.serialize_behind(number, value) if choice.functions else "")
 
@@ -342,11 +345,12 @@ def read_call(case):
     return Generic("read_case", ["Self"] + its + ["D"], [str(case.tag), "alloc", "part", "deserializer"])
 
 
-def read_values(case):
-    """The names of what was read, and the variant that is made of it."""
-    if case.is_made_apart:
-        return "values", f"{made_of(case).name}(values)"
-    return flat(pattern(case.names, case.by_fours)), case.built()
+def read_arm(case):
+    """The arm that makes the variant of what was read, by how far it is indented."""
+    if not case.is_made_apart:
+        return partial(ok_arm, flat(pattern(case.names, case.by_fours)), case.built())
+    made = made_of(case)
+    return partial(tried_arm if made.takes_memory else ok_arm, "values", made.call())
 
 
 def read_arms(choice, number):
@@ -356,7 +360,7 @@ def read_arms(choice, number):
         if choice.functions:
             arms.append(choice.functions.arm(case, tag, "read", ["alloc", "part", "deserializer"]))
         else:
-            arms.append(match_arm(tag, read_call(case), *read_values(case)))
+            arms.append(match_arm(tag, read_call(case), read_arm(case)))
     arms += choice.units.read_arm()
     return "".join(arms) + (choice.functions.groups.read_behind(number) if choice.functions else "")
 
@@ -378,7 +382,7 @@ def functions(choice):
         if case.count:
             texts.append(of.resolve(case, f"{taken_apart(choice.formats, case.types, 8)}{lending(case, 8)}{statement(8, '', resolve_call(case), '')}"))
         texts.append(of.serialize(case, lending(case, 8), serialize_call(case)))
-        texts.append(of.read(case, read_call(case), ok_arm(*read_values(case), 12)))
+        texts.append(of.read(case, read_call(case), read_arm(case)(12)))
     arms = [lambda *of_group, its=its: its(choice, *of_group) for its in (resolve_arms, serialize_arms, read_arms)]
     return of.text(texts + of.groups.texts(*arms))
 

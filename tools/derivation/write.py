@@ -8,6 +8,7 @@ end, or are too many"). Shapes have no names, so no two definitions clash.
 import re
 
 from . import generics, records, texts, variants
+from .arrays import is_made
 from .recursive import layers
 from .formats import USERS, Formats
 from .layout import use
@@ -18,6 +19,7 @@ def written(module):
     """What follows the head of `module`: the marker, and the impls of each declaration."""
     formats = Formats(module)
     body = "\n".join(form(declaration)(formats, declaration) for declaration in module.declarations)
+    body = formats.arrays.all() + body
     return f"{MARK}\n\n{ghosts(formats, body)}\n{imports(formats, body)}\n{texts.text(module)}{body}"
 
 
@@ -29,6 +31,9 @@ def proofs(module):
         if not declaration.as_tuple and not declaration.part_by_part:
             its = records if declaration.kind == "struct" else variants
             out.update(its.proofs(formats, declaration))
+            for field in filter(lambda it: is_made(it.type), declaration.all_fields()):
+                formats.arrays.called(field.type)
+    out.update(formats.arrays.proofs(module))
     out.update(layers.files(module))
     return out
 
