@@ -60,8 +60,9 @@ def unmade(type):
         return None
     if type.own is not None:
         return f"an array in the arguments of a struct isn't read back; write a `Vec` in place of `{first(type).text}`"
-    if is_remade(type) and type.name not in PLACES | OWNERS:
-        return f"an array in a `{type.name}` isn't read back; put `{first(type).text}` into a struct of its own"
+    if type.name == "OwnedArray":
+        inner = first(type)
+        return f"an array in another type is read back as an `OwnedArray`; write `OwnedArray<{inner.args[0].text}, {inner.length}>`, of `archive_core::core_impls`"
     if type.name == "Vec" and takes_memory(type.args[0]):
         return f"an array in a type that takes memory isn't read back in a `Vec`; put `{type.args[0].text}` into a struct of its own"
     if is_array(type) and int(type.length) > MOST_APART and is_remade(type.args[0]):
@@ -90,6 +91,7 @@ class Arrays:
 
     def __init__(self, its):
         self.formats = its
+        self.names = {}  # of each function by its type, with that type in words
         self.texts = {}  # of each function by its name
         self.looped = []  # those with a loop
 
@@ -97,12 +99,14 @@ class Arrays:
         """The name of the call that makes a value of this type of what is read back in its place."""
         if is_array(type) and not is_remade(type.args[0]):
             return "into_array"
-        name = f"made_{words(type)}"
-        if name not in self.texts:
-            self.texts[name] = ""
+        spelled = self.formats.spelled(type)
+        if spelled not in self.names:
+            alike = sum(words(type) == it for it, _ in self.names.values())
+            name = f"made_{words(type)}" + (f"_{alike + 1}" if alike else "")
+            self.names[spelled] = (words(type), name)
             self.looped += [name] if type.name == "Vec" else []
             self.texts[name] = self.text(name, type)
-        return name
+        return self.names[spelled][1]
 
     def value(self, type, name):
         """A value of this type, of what was read back under this name; where that takes memory it was made before."""

@@ -218,15 +218,15 @@ def check_arrays(module: Module):
     for it in module.declarations:
         for field in it.all_fields():
             type = field.type
+            pointer = found_in(type, lambda x: x.own is None and x.name in POINTERS and array_in(x, {"array", "OwnedArray"}))
+            if pointer:
+                array = array_in(pointer, {"array", "OwnedArray"})
+                raise Refused(module.path, type.line, f"the check states nothing of an array in a `{pointer.name}`; put `{array.text}` into a struct of its own")
             if not it.as_tuple and not it.part_by_part:
                 why = arrays.unmade(type)
                 if why:
                     raise Refused(module.path, type.line, why)
                 continue
-            pointer = found_in(type, lambda x: x.own is None and x.name in POINTERS and array_in(x, {"array", "OwnedArray"}))
-            if pointer:
-                array = array_in(pointer, {"array", "OwnedArray"})
-                raise Refused(module.path, type.line, f"the check states nothing of an array in a `{pointer.name}`; put `{array.text}` into a struct of its own")
             is_array = type.name == "array" and type.own is None
             inner = unreturned(type.args[0], True) if is_array else unreturned(type)
             if inner:

@@ -260,16 +260,32 @@ def proofs(formats, declaration):
     if answers:
         out[f"proofs/{module}/{made.name}/Answers.antt"] = answers
     out[f"proofs/{module}/{impl}/deserialize_part/Answers.antt"] = f"""-- {WRITTEN}
-use Rattle.std.proofs.Common.{{rules}}
+use Rattle.std.proofs.Common.{{{'inl, ' if made.takes_memory else ''}rules}}
 use Rattle.{dotted}.{impl}.deserialize_part.Goals as goal
+{read_answers(made)}"""
+    return out
 
-pub returns-in-Ok : goal.returns-in-Ok
-returns-in-Ok g c = record {{
-  read = rw (c.{made.name}.ensures.meaning, c.{made.name}.ensures.keys) c.in-Ok.ensures.read;
+
+def read_answers(made):
+    """That the record means what was read, and that memory for it was refused, where it takes any."""
+    name, arm = made.name, f"in-Ok-{made.name}" if made.takes_memory else "in-Ok"
+    of = arm if made.takes_memory else name
+    out = f"""
+pub returns-{arm} : goal.returns-{arm}
+returns-{arm} g c = record {{
+  read = rw (c.{of}.ensures.meaning, c.{of}.ensures.keys) c.in-Ok.ensures.read;
   refused = search rules;
 }}
 """
-    return out
+    if not made.takes_memory:
+        return out
+    return f"""{out}
+pub returns-in-Err-{name} : goal.returns-in-Err-{name}
+returns-in-Err-{name} g c = record {{
+  read = search rules;
+  refused = inl c.in-Err-{name}.ensures.refused;
+}}
+"""
 
 
 def views(record):

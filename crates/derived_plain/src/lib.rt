@@ -2,6 +2,7 @@
 //! are in tests_derived.
 #![tactic(auto)]
 
+pub mod crop;
 pub mod depot;
 pub mod notice;
 pub mod outcome;

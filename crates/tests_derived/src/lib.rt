@@ -5,6 +5,8 @@
 #[cfg(test)]
 mod assertions;
 #[cfg(test)]
+mod crops;
+#[cfg(test)]
 mod depots;
 #[cfg(test)]
 mod drawings;

@@ -45,9 +45,9 @@ class ArraysWithin(RepositoryTest):
         self.assertIn("{let[a0,a1,a2]=read.into_array();[a0.into_array(),a1.into_array(),a2.into_array()]}", text)
 
     def test_a_function_is_written_once(self):
-        text = self.written("struct A { x: Option<[u32; 4]>, y: (u8, [u32; 4]) }\nenum B { X(Option<[u32; 4]>), Y(Result<(u8, [u32; 4]), u8>) }\n")
+        text = self.written("struct A { x: Option<[u32; 4]>, y: (u8, [u32; 4]) }\nenum B { X(Option<[u32; 4]>), Y(Result<[u32; 4], u8>) }\nstruct C { x: [Option<[u32; 4]>; 2] }\n")
         self.assertEqual(text.count("fnmade_option_array4_u32("), 1)
-        self.assertIn("Ok(value)=>Ok(made_tuple2_u8_array4_u32(value))", text)
+        self.assertIn("[made_option_array4_u32(a0),made_option_array4_u32(a1)]", text)
 
     def test_an_array_of_own_values(self):
         text = self.written("struct P { x: u8 }\nstruct A { x: Option<[P; 2]>, y: [Option<[String; 2]>; 1] }\n")
@@ -55,7 +55,7 @@ class ArraysWithin(RepositoryTest):
         self.assertIn("OwnedArray<Option<OwnedArray<String,2>>,1>", text)
 
     def test_two_runs_write_the_same(self):
-        path = self.put("struct A { x: Option<[u32; 4]>, y: Vec<[i8; 2]>, z: Result<[u64; 2], String> }\n")
+        path = self.put("struct A { x: Option<[u32; 4]>, y: ([i8; 2], u8), z: Result<[u64; 2], String> }\n")
         self.assertEqual(self.run_command(path), (0, ""))
         once = self.text(path)
         self.assertEqual(self.run_command(path), (0, ""))
@@ -63,19 +63,22 @@ class ArraysWithin(RepositoryTest):
         self.assertEqual(self.run_command("--check", path), (0, ""))
 
 
-class ArraysBehindPointers(RepositoryTest):
-    def test_what_takes_memory_may_be_refused(self):
-        text = bare(write.written(self.module("struct A { x: Vec<[u32; 4]>, y: Option<Box<[i8; 2]>> }\n")))
-        self.assertIn("fnmade_vec_array4_u32(alloc:Global,read:Vec<OwnedArray<u32,4>>)->Result<Vec<[u32;4]>,Error>", text)
-        self.assertIn("Some(value)=>matchmade_box_array2_i8(alloc,value){Ok(value)=>Ok(Some(value)),Err(error)=>Err(error)}", text)
-        self.assertIn("fna_of(alloc:Global,values:AOwned)->Result<A,Error>", text)
-        self.assertIn("Ok(values)=>matcha_of(alloc,values){Ok(value)=>Ok(value),Err(error)=>Err(error)}", text)
+class Refused(RepositoryTest):
+    def refused(self, type):
+        said = self.refusal(f"use archive_core::core_impls::OwnedArray;\nuse archive_core::rc::Shared;\nstruct P<T> {{ x: T }}\nstruct A {{ y: {type} }}\n")
+        return said.removeprefix("4: ")
 
-    def test_the_loop_over_a_vector_has_its_invariant(self):
-        proofs = write.proofs(self.module("enum A { X, Y(Vec<[u32; 4]>) }\n"))
-        self.assertIn("invariant-loop-value", proofs["proofs/types/made_vec_array4_u32/Invariants.antt"])
+    def test_an_array_behind_a_pointer(self):
+        for type, name in (("Vec<[u32; 4]>", "Vec"), ("Option<Box<[u8; 2]>>", "Box"), ("[Vec<[u8; 2]>; 2]", "Vec"), ("Shared<[u16; 3]>", "Shared")):
+            with self.subTest(type):
+                self.assertIn(f"the check states nothing of an array in a `{name}`; put `[u", self.refused(type))
 
-    def test_bytes_are_read_as_they_are(self):
-        text = bare(write.written(self.module("struct A { x: Vec<[u8; 4]>, y: Box<[u8; 2]> }\n")))
-        self.assertIn("typeAOwned=(Vec<[u8;4]>,(Box<[u8;2]>,()));", text)
-        self.assertNotIn("made_", text)
+    def test_an_array_in_the_arguments_of_a_struct(self):
+        self.assertEqual(self.refused("P<[u32; 4]>"), "an array in the arguments of a struct isn't read back; write a `Vec` in place of `[u32; 4]`")
+
+    def test_an_array_in_an_owned_one(self):
+        self.assertEqual(self.refused("OwnedArray<[u32; 4], 2>"), "an array in another type is read back as an `OwnedArray`; write `OwnedArray<u32, 4>`, of `archive_core::core_impls`")
+
+    def test_more_arrays_than_are_taken_apart(self):
+        self.assertEqual(self.refused("[[u32; 4]; 17]"), "an array of more than 16 arrays isn't read back; put `[u32; 4]` into a struct of its own")
+        self.declaration("struct A { x: [[u32; 4]; 16] }")

@@ -48,12 +48,10 @@ FIELDS = [
     ("archive_core::primitive::NonZero<bool>", "`NonZero` is of a number of one size; write `NonZero<u32>`"),
     ("archive_core::string::ArchivedString", "`archive_core::string::ArchivedString` has no format here"),
     ("Vec<(u8, Option<(u8, u8)>)>", "a tuple in a tuple or a map is too deep for the toolchain; write a struct without parameters in place of the inner one"),
-    ("Option<[u16; 4]>", "an array in another type is read back as an `OwnedArray`; write `OwnedArray<u16, 4>`, of `archive_core::core_impls`"),
     ("archive_core::core_impls::OwnedArray<[u8; 4], 2>", "an array in another type is read back as an `OwnedArray`; write `OwnedArray<u8, 4>`"),
     ("Vec<[u8; 4]>", "the check states nothing of an array in a `Vec`; put `[u8; 4]` into a struct of its own"),
     ("Option<Box<Option<archive_core::core_impls::OwnedArray<u8, 4>>>>", "the check states nothing of an array in a `Box`; put `archive_core::core_impls::OwnedArray<u8, 4>` into a struct of its own"),
     ("std::collections::BTreeMap<u8, [u8; 4]>", "the check states nothing of an array in a `BTreeMap`; put `[u8; 4]` into a struct of its own"),
-    ("[[u8; 4]; 2]", "an array in another type is read back as an `OwnedArray`; write `OwnedArray<u8, 4>`"),
     (f"({', '.join(['u8'] * 14)})", "a tuple of 14 has no format, only up to 13; write a struct"),
     (f"{'Option<' * 200}u8{'>' * 200}", "this type is nested more than 100 deep; give a part of it a name"),
 ]
