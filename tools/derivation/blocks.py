@@ -71,7 +71,7 @@ def resolvers(record, number):
     """What is kept of the fields of a block, with the type of what is kept behind it."""
     begin, end = record.blocks[number]
     behind = kept_from(record, number + 1) if number + 1 < len(record.blocks) else "()"
-    return pair([f"<{rust} as Archive>::Resolver" for rust in record.rust[begin:end]], behind)
+    return pair([record.formats.resolver(type) for type in record.types[begin:end]], behind)
 
 
 def kept_at(record, index):
@@ -269,8 +269,7 @@ class Rest:
         keyed = chain("part_keyed", [f.keyed(type, v) for type, v in zip(types, values)], "nothing_keyed")
         planned = "no_part_planned"
         for type, v in reversed(list(zip(types, values))):
-            q = f.source(type)
-            planned = f"(part_planned {f.definitions(type)} {f.shape(type)} ({q}.keys {v}) ({q}.meaning {v}) {f.planned(type, v)} {planned})"
+            planned = f"({f.part_planned(type, v)} {planned})"
         told = {
             "meanings": f"⟦<{its}>⟧.meanings",
             "flats": f"λ v r. ⟦<{its}>⟧.flats v r.kept",

@@ -310,6 +310,23 @@ class Formats(Laws):
         """The members of `Archive`, of a parameter by its name."""
         return type.name if type.parameter else f"⟦<{self.rust(type)} as Archive>⟧"
 
+    def at(self, type, which, value, kept=""):
+        """A member of `Archive` at a value, and at its resolver."""
+        return " ".join(filter(None, (f"{self.source(type)}.{which}", value, kept)))
+
+    def read_at(self, type, which, value):
+        """The same of what a field of this type is read back as."""
+        return self.at(as_read(type) if is_made(type) else type, which, value)
+
+    def part_planned(self, type, value):
+        """The plan of a part, before that of those behind it."""
+        keys, meaning = self.at(type, "keys", value), self.at(type, "meaning", value)
+        return f"part_planned {self.definitions(type)} {self.shape(type)} ({keys}) ({meaning}) {self.planned(type, value)}"
+
+    def resolver(self, type):
+        """What is kept of a value between `serialize` and `resolve`."""
+        return f"<{self.rust(type)} as Archive>::Resolver"
+
     def definitions(self, type):
         """The definitions that its archived type brings."""
         self.ghost("Definitions", "both", "no_definition")

@@ -20,7 +20,6 @@ class Made:
     def __init__(self, formats, types, by_fours, name, of, owned, meaning, path, pieces=(), in_blocks=None):
         self.formats = formats
         self.types = types
-        self.read = [formats.read_as(type) for type in types]
         self.by_fours = by_fours
         self.pieces = pieces  # in which the fields were read, if they weren't at once
         self.in_blocks = in_blocks  # the struct, if its fields were read in blocks
@@ -42,10 +41,9 @@ class Made:
 
     def text(self, names, built):
         """The function."""
-        sources = [f"⟦<{read} as Archive>⟧" for read in self.read]
         values = [f"values{place}" for place in self.places]
-        meanings = chain("value", [f"({q}.meaning {v})" for q, v in zip(sources, values)], "no_value")
-        keys = infix("++", [f"{q}.keys {v}" for q, v in zip(sources, values)], "[]")
+        meanings = chain("value", [f"({self.formats.read_at(type, 'meaning', v)})" for type, v in zip(self.types, values)], "no_value")
+        keys = infix("++", [self.formats.read_at(type, "keys", v) for type, v in zip(self.types, values)], "[]")
         if self.takes_memory:
             return f"""// The `{self.path}` of these values, one after another.
 fn {self.name}(alloc: Global, values: {self.owned}) -> Result<{self.of}, Error>

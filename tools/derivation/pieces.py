@@ -43,10 +43,9 @@ class Pieces:
 {self.function()}"""
 
     def function(self):
-        sources = [f"⟦<{read} as Archive>⟧" for read in self.its.read]
         values = [f"t{place(self.pieces, i)}" for i in range(len(self.types))]
-        keys = infix("++", [f"{q}.keys {v}" for q, v in zip(sources, values)], "[]")
-        meanings = chain("value", [f"({q}.meaning {v})" for q, v in zip(sources, values)], "no_value")
+        keys = infix("++", [self.formats.read_at(type, "keys", v) for type, v in zip(self.types, values)], "[]")
+        meanings = chain("value", [f"({self.formats.read_at(type, 'meaning', v)})" for type, v in zip(self.types, values)], "no_value")
         its = f"⟦<{self.source.archived} as ArchivePointee>⟧"
         bound = self.formats.reader_bound(self.types)
         head = signature(f"fn {self.name}", [f"D: {bound}"], ["alloc: Global", "part: RawView<'_>", "deserializer: &mut D"], f"Result<{self.word}Owned, Error>")

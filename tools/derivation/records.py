@@ -137,7 +137,7 @@ def is_record(record):
 def resolver(record):
     if not record.count:
         return ""
-    kept = blocks.resolvers(record, 0) if record.blocks else pair([f"<{rust} as Archive>::Resolver" for rust in record.rust])
+    kept = blocks.resolvers(record, 0) if record.blocks else pair([record.formats.resolver(type) for type in record.types])
     return f"""/// What is kept of `{record.name}` between `serialize` and `resolve`.
 #[derive(Drop)]
 {record.declared}struct {record.resolver} {{
@@ -151,16 +151,15 @@ def archive(record):
     f.ghost("Keyed", "record_keyed", "part_keyed", "nothing_keyed")
     f.ghost("PartsPlanned", "part_planned", "no_part_planned")
     f.ghost("Plain", "plain_record_planned")
-    sources = [f.source(type) for type in types]
-    meanings = chain("value", [f"({q}.meaning {v})" for q, v in zip(sources, values)], "no_value")
+    meanings = chain("value", [f"({f.at(type, 'meaning', v)})" for type, v in zip(types, values)], "no_value")
     resolvers = [f"r.kept{blocks.kept_at(record, i) if record.blocks else '.1' * i + '.0'}" for i in range(record.count)]
-    flats = chain("value", [f"({q}.flat {v} {r})" for q, v, r in zip(sources, values, resolvers)], "no_value")
-    keys = infix("++", [f"{q}.keys {v}" for q, v in zip(sources, values)], "[]")
-    belongs = infix("×", [f"{q}.belongs {v} {r}" for q, v, r in zip(sources, values, resolvers)], "Unit {0}")
+    flats = chain("value", [f"({f.at(type, 'flat', v, r)})" for type, v, r in zip(types, values, resolvers)], "no_value")
+    keys = infix("++", [f.at(type, "keys", v) for type, v in zip(types, values)], "[]")
+    belongs = infix("×", [f.at(type, "belongs", v, r) for type, v, r in zip(types, values, resolvers)], "Unit {0}")
     keyed = chain("part_keyed", [f.keyed(type, v) for type, v in zip(types, values)], "nothing_keyed")
     planned = "no_part_planned"
-    for type, q, v in reversed(list(zip(types, sources, values))):
-        planned = f"(part_planned {f.definitions(type)} {f.shape(type)} ({q}.keys {v}) ({q}.meaning {v}) {f.planned(type, v)} {planned})"
+    for type, v in reversed(list(zip(types, values))):
+        planned = f"({f.part_planned(type, v)} {planned})"
     kept, apart = blocks.handed(record, 0) if record.blocks else (kept_of(f, types) if record.count else "resolver", taken_apart(f, types, 8))
     taken = f"        let {record.resolver} {{ kept }} = resolver;\n{apart}" if record.count else ""
     arguments = [f"&self.{field.name}" for field in record.fields] + [kept, "Place::new(pos, bytes)"]

@@ -31,7 +31,6 @@ class Case:
         self.archived = [formats.archived(type) for type in self.types]
         self.rust = [formats.rust(type) for type in self.types]
         self.read = [formats.read_as(type) for type in self.types]
-        self.sources = [formats.source(type) for type in self.types]
         sizes = layout_of([formats.layout(type) for type in self.types], 1)
         self.align, self.offsets, self.end = sizes[1:]
         self.parts = chain("part", [formats.shape(type) for type in self.types], "no_part")
@@ -172,7 +171,7 @@ def is_choice(choice):
 def resolver(choice):
     lines = choice.units.resolver()
     for case in choice.units.apart():
-        kept = pair([f"<{rust} as Archive>::Resolver" for rust in case.rust])
+        kept = pair([choice.formats.resolver(type) for type in case.types])
         doc = f"    /// Of `{case.name}`.\n"
         lines.append(doc + (statement(4, "", Group(f"{case.name}(", [kept], ")"), ",") if case.count else f"    {case.name},\n"))
     return f"""/// What is kept of `{choice.name}` between `serialize` and `resolve`.
@@ -190,20 +189,20 @@ def archive(choice):
     f.ghost("Plain", "plain_variant_planned")
 
     def meaning(case):
-        return f"case {case.tag} " + chain("value", [f"({q}.meaning {a})" for q, a in zip(case.sources, case.binders)], "no_value")
+        return f"case {case.tag} " + chain("value", [f"({f.at(type, 'meaning', a)})" for type, a in zip(case.types, case.binders)], "no_value")
 
     def flats(case):
-        those = [f"({q}.flat {a} s{'.1' * i}.0)" for i, (q, a) in enumerate(zip(case.sources, case.binders))]
+        those = [f"({f.at(type, 'flat', a, 's' + '.1' * i + '.0')})" for i, (type, a) in enumerate(zip(case.types, case.binders))]
         yes = f"case {case.tag} " + chain("value", those, "no_value")
         return choice.kept(case, yes, f"case {case.tag} no_value") if case.count else yes
 
     def keys(case):
-        return infix("++", [f"{q}.keys {a}" for q, a in zip(case.sources, case.binders)], "[]")
+        return infix("++", [f.at(type, "keys", a) for type, a in zip(case.types, case.binders)], "[]")
 
     def belongs(case):
         if choice.units.has(case):
             return "Unit {0}"
-        those = [f"{q}.belongs {a} s{'.1' * i}.0" for i, (q, a) in enumerate(zip(case.sources, case.binders))]
+        those = [f.at(type, "belongs", a, "s" + ".1" * i + ".0") for i, (type, a) in enumerate(zip(case.types, case.binders))]
         return choice.kept(case, infix("×", those, "Unit {0}"), "⊥")
 
     def keyed(case):
@@ -212,8 +211,8 @@ def archive(choice):
 
     def planned(case):
         out = "no_part_planned"
-        for type, q, a in reversed(list(zip(case.types, case.sources, case.binders))):
-            out = f"(part_planned {f.definitions(type)} {f.shape(type)} ({q}.keys {a}) ({q}.meaning {a}) {f.planned(type, a)} {out})"
+        for type, a in reversed(list(zip(case.types, case.binders))):
+            out = f"({f.part_planned(type, a)} {out})"
         return f"plain_variant_planned _ _ {case.tag} {case.parts} refl {case.defined} _ _ {out} refl"
 
     arms = resolve_arms(choice, 0, "self")
