@@ -284,15 +284,15 @@ class Recursive(RepositoryTest):
         self.assertEqual(self.run_command("--check", path), (0, ""))
 
     def test_a_variant_with_weak_pointers_is_looked_at_by_their_options(self):
-        path = self.put("use archive_core::rc::{Shared, WeakShared};\n#[derive(Drop)]\npub enum Node { Leaf(u32), Link { next: Vec<Shared<Node>>, up: WeakShared<Node> }, By(Option<Shared<Node>>) }\n")
+        path = self.put("use archive_core::rc::{Shared, SharedSlice, WeakShared};\n#[derive(Drop)]\npub enum Node { Leaf(u32), Link { next: Vec<Option<Shared<Node>>>, up: WeakShared<Node> }, By(Option<Shared<Node>>), All(SharedSlice<Node>) }\n")
         self.assertEqual(self.run_command(path), (0, ""))
         text, meaning = self.text(path), self.beside("specs", "NodeMeaning.antt")
-        for word in ("struct WeakNodeAt;", "fn serialize_weak_shared_node<", "fn begin_target<"):
+        for word in ("struct WeakNodeAt;", "fn serialize_weak_shared_node<", "fn serialize_keyed_node<", "fn begin_target<", "fn read_items_node<"):
             self.assertEqual(text.count(word), 1, word)
         # no clause matches on the record that a weak pointer is
         for word in ("node_link_means_at a0 None = ", "node_link_planned_at a0 (Some a1) = ", "node_means_roll (Layer.Link a0 a1) = node_link_means_at a0 a1.value", "node_keyed_layer (Layer.By None) = "):
             self.assertIn(word, meaning)
-        self.assertIn("node_link_opens : (a0 : (Vec (Shared Node-Source) Global)) (a1 : (WeakShared Node-Source)) → ", meaning)
+        self.assertIn("node_link_opens : (a0 : (Vec (Option (Shared Node-Source)) Global)) (a1 : (WeakShared Node-Source)) → ", meaning)
         self.assertEqual(self.run_command("--check", path), (0, ""))
 
     def test_a_shared_slice_lies_beside_a_box(self):
