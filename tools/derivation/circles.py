@@ -110,7 +110,7 @@ def check_circles(declarations: List[Declaration]):
         way = circle(it, edges, False)
         if way:
             names = " > ".join([it.name] + [edge[0].name for edge in way])
-            raise Refused(it.path, way[0][2], f"`{it.name}` holds itself behind no pointer ({names}); put a `Box`, a `Vec` or a `Shared` between")
+            raise Refused(it.path, way[0][2], f"`{it.name}` contains itself with no pointer between ({names}); put a `Box`, a `Vec` or a `Shared` between")
     for it in every:
         way = circle(it, edges, True)
         it.recursive = way is not None

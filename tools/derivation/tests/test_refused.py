@@ -181,7 +181,7 @@ class Circles(RepositoryTest):
             ("struct A(Result<u8, Self>);", "A > A"),
         ]:
             with self.subTest(text):
-                self.assertIn(f"holds itself behind no pointer ({names}); put a `Box`, a `Vec` or a `Shared` between", self.refusal(text))
+                self.assertIn(f"contains itself with no pointer between ({names}); put a `Box`, a `Vec` or a `Shared` between", self.refusal(text))
 
     def test_behind_a_pointer(self):
         for text, said in [
