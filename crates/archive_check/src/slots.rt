@@ -133,8 +133,9 @@ impl<V: Copy + Default, A: Allocator + Clone> Slots<V, A> {
         }
     }
 
-    /// Makes at least two slots for each of `count` keys, where there are fewer; what they said
-    /// stays. Fails if memory is refused, and then nothing changes.
+    /// Makes at least two slots for each of `count` keys, where there are fewer, and puts the keys
+    /// of the old ones into these: some may be driven out. Fails if memory is refused, and then
+    /// nothing changes.
     #[inline(always)]
     pub fn make_room(&mut self, count: usize) -> Result<(), AllocError>
         ensures { SlotsSayNoMore self.old self.new }

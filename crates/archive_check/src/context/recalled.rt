@@ -73,7 +73,7 @@ impl<A: Allocator + Copy> FinishedPositions<A> {
     }
 
     /// Makes at least two slots for each of `count` positions, so that adding one takes no memory.
-    /// Fails if memory is refused; what is recalled stays in any case.
+    /// Fails if memory is refused; what is recalled stays true in any case.
     pub(crate) fn make_room(&mut self, count: usize) -> Result<(), AllocError>
         ensures { (kept : ℤ → Option SharedPosition) → AreRecalled self.old.slots kept
             → AreRecalled self.new.slots kept }
