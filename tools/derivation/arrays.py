@@ -1,10 +1,12 @@
-"""Arrays in fields. They are read back as `OwnedArray`s, of which functions of the module make the arrays, for each type one: no generic call that may fail
-returns an array that it was given.
+"""Arrays in fields. In another type those of integers, `bool` and `char` are read back as they are: the library has an impl for each. Others are read back as
+`OwnedArray`s, of which functions of the module make the arrays, for each type one: no generic call that may fail returns an array that it was given.
 
     fn f<U: Copy, const N: usize>(x: [U; N]) -> Result<[U; N], Error> { Ok(x) }
 
-Bytes in another type are read back as they are, since the library has a call of them alone. What an `Option`, a `Result`, a tuple or an array holds goes from
-one to the other as it is, so these functions return just what they were given. Clauses don't state what is behind a pointer: checks.py refuses that.
+So is a field that is an array itself: the check covers none that is taken out of what was read and made part of a value.
+
+What an `Option`, a `Result`, a tuple or an array holds goes from one to the other as it is, so these functions return just what they were given. What is behind
+a pointer would take memory anew, so it isn't made.
 """
 
 from dataclasses import replace
@@ -13,17 +15,24 @@ from . import formats
 
 # An array of so many arrays is taken apart by a pattern of its elements: of sixteen the search did not prove that they are the same.
 MOST_APART = 3
+# Of what is no integer by its name, arrays are read back as they are, too.
+SINGLE = {"bool", "char", "usize", "isize"}
 
 
 def is_array(type):
     return type.own is None and type.name == "array"
 
 
+def is_read(type):
+    """Whether arrays of this type are read back as they are."""
+    return type.own is None and not type.parameter and (type.name in formats.INTEGERS or type.name in SINGLE)
+
+
 def is_remade(type):
     """Whether a type within another one has an array that isn't read back as it is."""
     if type.own is not None or type.parameter or type.name == "PhantomData":
         return False
-    return is_array(type) and (type.args[0].own is not None or type.args[0].name != "u8") or any(map(is_remade, type.args))
+    return is_array(type) and not is_read(type.args[0]) or any(map(is_remade, type.args))
 
 
 def is_made(type):
@@ -51,10 +60,11 @@ def unmade(type):
     inner = first(type)
     if type.own is not None:
         return f"an array in the arguments of a struct isn't read back; write a `Vec` in place of `{inner.text}`"
-    if type.name == "OwnedArray":
-        return f"an array in another type is read back as an `OwnedArray`; write `OwnedArray<{inner.args[0].text}, {inner.length}>`, of `archive_core::core_impls`"
-    if is_array(type) and int(type.length) > MOST_APART and is_remade(type.args[0]):
-        return f"an array of more than {MOST_APART} arrays isn't read back; put `{type.args[0].text}` into a struct of its own"
+    is_long = is_array(type) and int(type.length) > MOST_APART
+    if is_remade(type) and type.name in formats.POINTERS | {"OwnedArray"} or is_long and is_remade(type.args[0]):
+        array = made_in(type.args[0]) if is_long else made_in(type)
+        item, where = array.args[0].text, f"more than {MOST_APART} others" if is_long else f"`{type.name}`"
+        return f"an array of `{item}` in {where} is read back as an `OwnedArray`; write `OwnedArray<{item}, {array.length}>`, of `archive_core::core_impls`"
     return next((why for arg in type.args if (why := unmade(arg))), None)
 
 
@@ -63,9 +73,19 @@ def holds(type):
     return is_array(type) or not type.parameter and type.name != "PhantomData" and any(map(holds, type.args))
 
 
+def has_array(type):
+    """Whether a value of this type has an array in it, which isn't behind a pointer."""
+    return holds(type) and (is_array(type) or type.name not in formats.POINTERS and any(map(has_array, type.args)))
+
+
 def first(type):
     """The first array in a type."""
     return type if is_array(type) else next(map(first, filter(holds, type.args)))
+
+
+def made_in(type):
+    """The first array in a type that isn't read back as it is."""
+    return type if is_array(type) else next(map(made_in, filter(is_remade, type.args)))
 
 
 def words(type):
@@ -127,7 +147,7 @@ fn {name}(read: {read}) -> {made}
         return f"    let {open}{', '.join(names)}{comma}{close} = {of};\n    {open}{', '.join(made)}{comma}{close}\n"
 
     def within(self, type, name="value"):
-        """The same of a value within another one, where bytes are read back as they are."""
+        """The same of a value within another one, where arrays of numbers are read back as they are."""
         return self.value(type, name) if is_remade(type) else name
 
     def all(self):

@@ -10,6 +10,11 @@ from .made import WRITTEN
 # The library copies values of up to so many bytes, and of 1 to so many fields.
 MOST_BYTES = 1024
 MOST_FIELDS = 16
+# How such a value is resolved: its bytes are the same everywhere.
+RESOLVED = """        let Place { bytes, .. } = place;
+        self.copy_one(bytes);
+        Ok(())
+"""
 COPIED = {"bool", "char", "()", "NonZero", "PhantomData", "integer"}
 
 

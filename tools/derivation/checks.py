@@ -12,6 +12,10 @@ from .recursive.refusals import MOST_BY_NAME
 from . import read
 
 
+# How far a type is seen, by the words before it; `pub(super)` and `pub(in ..)` are in between.
+SEEN = {"": 0, "pub(self)": 0, "pub(crate)": 2, "pub": 3}
+
+
 def has_parameter(it: Type) -> bool:
     return it.parameter or any(map(has_parameter, it.args))
 
@@ -212,20 +216,35 @@ def check_nests(module: Module):
                 raise Refused(module.path, field.type.line, f"{what} in {where} is too deep for the toolchain; write a struct without parameters in place of the inner one")
 
 
+# So many fields of a struct or of a variant have an array behind a pointer: of five the search didn't prove `resolve`.
+MOST_WITH_ARRAYS = 3
+
+
+def pointer_to_array(type: Type) -> Optional[Type]:
+    """The pointer in a type behind which an array is."""
+    return found_in(type, lambda x: x.own is None and x.name in POINTERS and array_in(x, {"array", "OwnedArray"}))
+
+
 def check_arrays(module: Module):
-    """Refuses arrays behind a pointer, and those that no call returns: those in other types but of bytes, and of a parameter."""
+    """Refuses arrays that aren't made of what is read back, and those in structs and types whose clauses don't tell of them."""
     for it in module.declarations:
+        for fields in [it.fields] + [v.fields for v in it.variants]:
+            held = [field for field in fields if pointer_to_array(field.type)]
+            if len(held) > MOST_WITH_ARRAYS:
+                said = f"{len(held)} fields have an array behind a pointer, and {MOST_WITH_ARRAYS} are the most; put some into a struct of their own"
+                raise Refused(module.path, held[MOST_WITH_ARRAYS].line, said)
         for field in it.all_fields():
             type = field.type
-            pointer = found_in(type, lambda x: x.own is None and x.name in POINTERS and array_in(x, {"array", "OwnedArray"}))
-            if pointer:
-                array = array_in(pointer, {"array", "OwnedArray"})
-                raise Refused(module.path, type.line, f"the check states nothing of an array in a `{pointer.name}`; put `{array.text}` into a struct of its own")
             if not it.as_tuple and not it.part_by_part:
                 why = arrays.unmade(type)
                 if why:
                     raise Refused(module.path, type.line, why)
                 continue
+            pointer = pointer_to_array(type)
+            if pointer:
+                array = array_in(pointer, {"array", "OwnedArray"})
+                where = "with type parameters" if it.parameters else "with a recursive type"
+                raise Refused(module.path, type.line, f"an array behind a pointer in a type {where} isn't proved; put `{array.text}` into a struct of its own")
             is_array = type.name == "array" and type.own is None
             inner = unreturned(type.args[0], True) if is_array else unreturned(type)
             if inner:
@@ -235,6 +254,21 @@ def check_arrays(module: Module):
             if held and it.as_tuple:
                 where = "with type parameters" if it.parameters else "that holds a recursive type"
                 raise Refused(module.path, type.line, f"an array in a struct {where} isn't proved; write a `Vec` in place of `{held.text}`")
+
+
+def check_seen(module: Module):
+    """Refuses a private type in a struct that is archived as a tuple with names and is seen farther: what it is written and read as names the type, too."""
+    for it in module.declarations:
+        for field in it.fields if it.as_tuple else []:
+            hidden = found_in(field.type, lambda x: x.own is not None and seen(x.own) < seen(it))
+            if hidden:
+                said = f"`{it.name}` is seen farther than `{hidden.own.declared_name}`, which it is archived with; declare `{hidden.own.declared_name}` as `{it.visibility}`, too"
+                raise Refused(module.path, field.type.line, said)
+
+
+def seen(it: Declaration) -> int:
+    """How far a type is seen."""
+    return SEEN.get(it.visibility.replace(" ", ""), 1)
 
 
 def check_marks(module: Module):

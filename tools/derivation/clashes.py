@@ -3,7 +3,8 @@
 import re
 from typing import Dict, Tuple
 
-from .model import MARK, Module, Refused
+from .formats import snake
+from .model import MARK, Declaration, Module, Refused
 from .names import STD_CRATES, STD_MODULES
 from .parse import parsed
 
@@ -17,6 +18,9 @@ def check_clashes(module: Module, written: str):
     below = parsed(module.path, written.replace(MARK, "", 1))
     for name, line in below.twice:
         raise Refused(module.path, line_of(module, name), f"`{name}` would be written twice; give one of the types another name")
+    for name in sorted(set(below.items) & set(below.uses)):
+        of = named_in(module, name)
+        raise Refused(module.path, of.line, f"`{name}` would be written of `{of.name}`, and the library has a call of this name; give the type another name")
     above = {it.lower(): (it, line) for it, line in module.names.items()}
     for name in below.items:
         if name.lower() in above:
@@ -29,6 +33,11 @@ def check_clashes(module: Module, written: str):
     check_globs(module, below.uses)
     check_uses(module, below.uses, module.uses, "use")
     check_uses(module, below.ghost_uses, module.ghost_uses, "ghost use")
+
+
+def named_in(module: Module, name: str) -> Declaration:
+    """The declaration that a written name is made of: the one whose name has the most of it."""
+    return max(module.declarations, key=lambda it: len(it.name) if snake(it.name) in name.lower() else 0)
 
 
 def check_prelude(module: Module):

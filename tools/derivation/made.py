@@ -1,7 +1,7 @@
 """Values of many fields, which a function of their own makes of those of their fields, with a proof that is written beside the module."""
 
 from . import blocks
-from .arrays import is_made
+from .arrays import has_array, is_made
 from .common import chain, infix, numbered
 from .layout import pair, statement
 from .long import names_of, place, places
@@ -11,8 +11,8 @@ WRITTEN = "Written by tools/derive: change the declaration, and run it again."
 
 
 def are_made(types):
-    """Whether a field of these types has an array of the machine, which no call returns."""
-    return any(map(is_made, types))
+    """Whether a field of these types has an array where it lies: where a call's result is taken apart, the check covers none that is made part of a value."""
+    return any(map(has_array, types))
 
 
 class Made:

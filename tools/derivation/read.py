@@ -368,6 +368,7 @@ def module(reader: Reader, source: Source) -> Module:
     checks.check_loads(out)
     checks.check_arrays(out)
     checks.check_marks(out)
+    checks.check_seen(out)
     checks.check_wide(out)
     checks.check_own_names(out)
     return out

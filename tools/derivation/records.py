@@ -72,7 +72,9 @@ def text(formats, declaration):
     if record.by_nest:
         formats.use("archive_core::record", "resolve_record", "serialize_record")
     else:
-        formats.use("archive_core::fields", f"serialize_record_{record.count}", f"resolve_record_{record.count}")
+        formats.use("archive_core::fields", f"serialize_record_{record.count}")
+        if not record.in_bulk:
+            formats.use("archive_core::fields", f"resolve_record_{record.count}")
     pieces = [
         struct(record),
         archive_pointee(record),
@@ -167,6 +169,10 @@ def archive(record):
     if record.by_nest:
         call = Generic("resolve_record", ["Self", f"{record.name}Fields", record.archived], ["self", kept, "Place::new(pos, bytes)"])
     told, calls = bulk.told(record) if record.in_bulk else in_turn(f)
+    resolved = f"""        let Place {{ bytes, pos, .. }} = place;
+{taken}{statement(8, "", call, "")}"""
+    if record.in_bulk:
+        resolved = bulk.RESOLVED
     return f"""impl Archive for {record.name} {{
 {f.law_lines()}    type Archived = {record.archived};
 
@@ -186,8 +192,7 @@ def archive(record):
     ghost planned = {{ λ v. plain_record_planned {record.defined} {record.parts} _ _ {planned} refl }};
 
 {resolve_head(record)}    {{
-        let Place {{ bytes, pos, .. }} = place;
-{taken}{statement(8, "", call, "")}    }}
+{resolved}    }}
 
 {calls}}}
 """

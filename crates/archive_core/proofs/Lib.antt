@@ -8,7 +8,6 @@ pub mod SharedOnes
 pub mod PooledReading
 pub mod PooledPointers
 pub mod PooledPositions
-pub mod PooledValues
 pub mod Whole
 pub mod OwnKeys
 pub use Rattle.archive_check.proofs.Archives

@@ -7,7 +7,6 @@ ghost use Rattle.std.proofs.Common.{true≢false};
 ghost use Rattle.archive_check.specs.Entries.{NoEntries, KeepsEntries};
 ghost use Rattle.archive_check.specs.Pooled.{Kept, pooled};
 ghost use Rattle.archive_check.specs.declared.format.error.Error.TheVariants.{OutOfMemory};
-ghost use Rattle.archive_write.specs.FinishedKeys.{AreFinishedKeys};
 ghost use Rattle.archive_core.specs.Pooling.{known_by, value_by, AreIndexed, IsPoolAnswer, IsSame, Spans, IsFinishAnswer};
 ghost use Rattle.archive_core.specs.KeptValues.{kept_value};
 ghost use Rattle.archive_core.specs.SharedSeen.{ReadsKept, HandsOut, SaysShown, RefusesKept, PutAt};
@@ -15,9 +14,8 @@ ghost use Rattle.archive_core.specs.SharedSeen.{ReadsKept, HandsOut, SaysShown, 
 use archive_check::format::error::Error;
 use archive_types::traits::{Archive, ArchivePointee, DeserializeUnsized, Entries};
 use archive_types::view::Ref;
-use archive_write::repeats::Repeats;
+use archive_write::known::KnownKeys;
 use std::alloc::Global;
-use std::collections::HashMap;
 
 /// What a position was when it was started. As in rkyv 0.8.18, with the value in place of a pointer to it.
 #[derive(Drop)]
@@ -151,12 +149,9 @@ impl<T: Pooled, D: Pooling<T>> PoolingExt<T> for D {}
 #[derive(Drop)]
 pub struct Pool<T> {
     // A finished position has the index of its value.
-    values: HashMap<usize, Option<usize>>,
+    positions: KnownKeys,
     finished: Vec<T>,
-    // The indices of positions to which many pointers lead.
-    repeats: Repeats<usize>,
-    ghost indexed: { AreIndexed finished.items (get nat_eq values) },
-    ghost recalls: { AreFinishedKeys repeats.slots (get nat_eq values) },
+    ghost indexed: { AreIndexed finished.items (get nat_eq positions.states) },
 }
 
 impl<T: Pooled> Pool<T> {
@@ -165,9 +160,8 @@ impl<T: Pooled> Pool<T> {
         ensures { NoEntries (⟦<Pool<T> as Entries>⟧.entry_of result) }
     {
         Pool {
-            values: HashMap::new(alloc),
+            positions: KnownKeys::new(alloc, alloc),
             finished: Vec::new(alloc),
-            repeats: Repeats::new(alloc),
         }
     }
 
@@ -175,13 +169,12 @@ impl<T: Pooled> Pool<T> {
     /// memory from `alloc` is refused.
     pub fn with_capacity(alloc: Global, capacity: usize) -> Result<Pool<T>, Error>
         ensures fresh { IfOk result (λ p. NoEntries (⟦<Pool<T> as Entries>⟧.entry_of p)) }
-        ensures room { IfOk result (λ p. capacity ≤ spare p.values) }
+        ensures room { IfOk result (λ p. capacity ≤ spare p.positions.states) }
         ensures refusal { IfErr result (λ e. e ≡ OutOfMemory) }
     {
         Ok(Pool {
-            values: HashMap::with_capacity(alloc, capacity)?,
+            positions: KnownKeys::with_capacity(alloc, alloc, capacity)?,
             finished: Vec::with_capacity(alloc, capacity)?,
-            repeats: Repeats::new(alloc),
         })
     }
 
@@ -190,39 +183,13 @@ impl<T: Pooled> Pool<T> {
     pub fn is_known(&self, pos: usize) -> bool
         ensures { result ≡ is_some (⟦<Pool<T> as Entries>⟧.entry_of self.now pos) }
     {
-        self.values.contains_key(&pos)
-    }
-
-    // The index of a finished position's value; none while the position is pending.
-    #[inline(always)]
-    fn find(&mut self, pos: usize) -> Option<Option<usize>>
-        ensures state { result ≡ get nat_eq self.old.values pos }
-        ensures same { self.new.values ≡ self.old.values }
-        ensures same_finished { self.new.finished ≡ self.old.finished }
-    {
-        match self.repeats.get(pos as u64) {
-            Some(index) => Some(Some(*index)),
-            None => self.search(pos),
-        }
-    }
-
-    // The same, by the map.
-    #[inline(always)]
-    fn search(&mut self, pos: usize) -> Option<Option<usize>>
-        ensures state { result ≡ get nat_eq self.old.values pos }
-        ensures same { self.new.values ≡ self.old.values }
-        ensures same_finished { self.new.finished ≡ self.old.finished }
-    {
-        let state = self.values.get(&pos).copied();
-        if let Some(Some(index)) = state {
-            self.repeats.add_found(pos as u64, index, self.values.len());
-        }
-        state
+        self.positions.is_known(pos as u64)
     }
 }
 
 impl<T: Pooled> Entries for Pool<T> {
-    ghost entry_of = { λ p t. known_by T.kept (value_by p.finished.items (get nat_eq p.values t)) };
+    ghost entry_of = { λ p t. known_by T.kept (value_by p.finished.items
+        (get nat_eq p.positions.states t)) };
 
     ghost keeps = { true };
 
@@ -231,32 +198,27 @@ impl<T: Pooled> Entries for Pool<T> {
 
 impl<T: Pooled> Pooling<T> for Pool<T> {
     fn start_pooling(&mut self, pos: usize) -> Result<PoolingState<T>, Error> {
-        match self.find(pos) {
+        match self.positions.find(pos as u64) {
             Some(None) => return Ok(PoolingState::Pending),
             Some(Some(index)) => {
                 return Ok(PoolingState::Finished(self.finished[index].clone()?));
             }
             None => {}
         }
-        self.values
-            .insert(pos, None)
-            .map_err(|_| Error::OutOfMemory)?;
+        if !self.positions.start(pos as u64) {
+            return Err(Error::OutOfMemory);
+        }
         Ok(PoolingState::Started)
     }
 
     fn finish_pooling(&mut self, pos: usize, value: T) -> Result<(), Error> {
-        match self.values.get_mut(&pos) {
-            None => Err(Error::NotStarted),
-            Some(state) => {
-                if state.is_some() {
-                    return Err(Error::AlreadyFinished);
-                }
-                let index = self.finished.len();
-                self.finished.push(value)?;
-                *state = Some(index);
-                Ok(())
-            }
+        let index = self.finished.len();
+        self.finished.push(value)?;
+        let finished = self.positions.finish(pos as u64, index);
+        if finished.is_err() {
+            self.finished.pop();
         }
+        finished
     }
 }
 

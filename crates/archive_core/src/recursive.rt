@@ -32,7 +32,7 @@ pub use fields::{
     resolve_named_record_4, resolve_named_record_5, resolve_named_record_6, resolve_named_record_7,
 };
 pub use hollow::{BoxAt, OptionAt, VecAt};
-pub use inner::{handed_on, serialize_inner, serialize_inner_slice, serialize_part};
+pub use inner::{handed_on, serialize_inner, serialize_inner_slice, serialize_part, serialize_run};
 pub use maps::{MapAt, before_map, collect_map, serialize_inner_map};
 pub use naming::{choice_of, define_name};
 pub use part_of::{part_of_record, part_of_variant, read_part, tag_of_choice};

@@ -1,6 +1,6 @@
 //! The eight bytes of a string, as rkyv 0.8.18 has them.
 
-ghost use Rattle.std.specs.Prelude.{◌≡◌, ◌<◌, ◌≤◌, MatchResult, FitsSigned, length};
+ghost use Rattle.std.specs.Prelude.{◌≡◌, ◌++◌, ◌<◌, ◌≤◌, MatchResult, FitsSigned, length, drop};
 ghost use Rattle.std.specs.Int.{w32};
 ghost use Rattle.archive_num.specs.Offsets.{distance, IsTooFar};
 ghost use Rattle.archive_num.specs.StringBytes.{inline_bytes, out_of_line_bytes, coded_length, OutOfLineWritten};
@@ -14,6 +14,30 @@ pub const INLINE_CAPACITY: usize = 8;
 /// A string's text of more bytes than these can't be archived. As in rkyv 0.8.18.
 pub const OUT_OF_LINE_CAPACITY: usize = 1_073_741_823;
 
+// Writes at most eight bytes over the first ones of eight. No call of the C library is made for so few: its first and its last four are copied, or two, which
+// may overlap.
+#[inline(always)]
+fn copy_front(text: &[u8], out: &mut [u8])
+    requires short { length text.now ≤ 8 }
+    requires sized { length out.old ≡ 8 }
+    ensures { out.new ≡ text.now ++ drop (length text.now) out.old }
+{
+    let len = text.len();
+    if len >= 4 {
+        out[..4].copy_from_slice(&text[..4]);
+        out[len - 4..len].copy_from_slice(&text[len - 4..]);
+        return;
+    }
+    if len >= 2 {
+        out[..2].copy_from_slice(&text[..2]);
+        out[len - 2..len].copy_from_slice(&text[len - 2..]);
+        return;
+    }
+    if len == 1 {
+        out[0] = text[0];
+    }
+}
+
 /// Writes a short text over the string's bytes, and 0xff over those that it leaves. Requires a text
 /// of at most `INLINE_CAPACITY` bytes and the eight bytes of the string; it never fails.
 #[inline(always)]
@@ -22,9 +46,8 @@ pub fn emplace_inline(value: &str, out: &mut [u8])
     requires sized { length out.old ≡ 8 }
     ensures { out.new ≡ inline_bytes value.now }
 {
-    let mut text = [0xff; 8];
-    text[..value.len()].copy_from_slice(value.as_bytes());
-    out.copy_from_slice(&text);
+    out.copy_from_slice(&[0xff; 8]);
+    copy_front(value.as_bytes(), out);
 }
 
 // The first four bytes of a string whose text stands elsewhere, as a number.

@@ -11,6 +11,7 @@ pub mod HollowTurns
 pub mod KeysAtOnce
 pub mod LegalElements
 pub mod LegalParts
+pub mod Openings
 pub mod OrderlyContexts
 pub mod Paid
 pub mod RootLoop

@@ -10,6 +10,7 @@ pub mod ShortTexts
 pub mod Pointers
 pub mod Records
 pub mod Owned
+pub mod PointersRefused
 pub mod OwnersWritten
 pub mod EntriesWritten
 pub mod SortedPairs

@@ -1,5 +1,5 @@
 -- Why the writing of a value is refused.
-use Rattle.std.specs.Prelude.{◌≡◌, ◌⊎◌, ℕ, ℤ, pos, suc, ◌+◌, ◌*◌, ◌-◌, ◌^◌, ◌<◌, ◌≤◌, List, ◌∷◌, length, None, Some, IsSomeAnd, Contains, FitsSigned}
+use Rattle.std.specs.Prelude.{◌≡◌, ◌⊎◌, ℕ, ℤ, pos, suc, ◌+◌, ◌*◌, ◌-◌, ◌^◌, ◌<◌, ◌≤◌, List, ◌∷◌, length, Some, IsSomeAnd, Contains, FitsSigned}
 use Rattle.std.specs.Int.{Width, byte_len}
 use Rattle.archive_check.specs.Shape.{Name, Sign, signed, unsigned, Kind, unit, bool, char, number as number_kind, non_zero, raw_rel, Key, Flavor, Shape, leaf, parts, choice, array, boxed, vec, sorted_map, str, shared, weak, named, Pointee, one, run, text, Parts, part, Variants, definition, variant_at}
 use Rattle.archive_check.specs.Layout.{Layout, up, size_of, align_of}
@@ -7,12 +7,12 @@ use Rattle.archive_check.specs.Definitions.{Definitions, Knows}
 use Rattle.archive_check.specs.Value.{Pointer, Value, number, product, case, list, box, hole, Values, value, pointers}
 use Rattle.archive_check.specs.Reads.{SchemaTable}
 use Rattle.archive_check.specs.Tour.{Region}
-use Rattle.archive_check.specs.WriterState.{KeyState, WriterState}
+use Rattle.archive_check.specs.WriterState.{WriterState}
 use Rattle.archive_check.specs.declared.format.error.Error.{Error}
 use Rattle.archive_check.specs.declared.format.error.Error.TheVariants.{OutOfMemory, IsizeOverflow, OffsetOverflow, PositionTooLarge, LengthTooLarge, NumberTooLarge, StringTooLong, BufferOverflow, WriterFailed, CyclicSerialize, LayoutTooLarge, UnsortedKeys}
 use Rattle.archive_check.specs.Denotes.{Naming}
 use Rattle.archive_num.specs.Offsets.{distance, IsTooFar}
-use Rattle.archive_types.specs.Plans.{Cursor, Step, lays, meets, disorder, Foreseen, ValuePlan, RegionPlan, cursor}
+use Rattle.archive_types.specs.Plans.{Cursor, Step, lays, meets, disorder, Foreseen, ValuePlan, RegionPlan, cursor, begun}
 
 -- The writer holds the planned bytes up to a position, ends at `cap`, and has less room than for
 -- the `count` planned bytes that come next.
@@ -183,6 +183,7 @@ IsRefused D X keys v old new = Explains (Hinders D X keys v (cursor old)) (PlanR
 abbrev pub IsRegionRefused : Definitions → Pointee → ℕ → List Naming → Value → WriterState → WriterState → Error → Type 0
 IsRegionRefused D P n keys v old new = Explains (HindersRegion D P n keys v (cursor old)) (RegionReaches D P n keys v (cursor old)) old new
 
--- Why a shared value isn't written, by its key's state: a pending one contains itself, or what hinders its region.
-abbrev pub HindersShared : KeyState → (Error → Type 0) → Error → Type 0
-HindersShared state own e = ((e ≡ CyclicSerialize) × (state ≡ Some None)) ⊎ own e
+-- Why they weren't written under an unknown key, which is pending meanwhile.
+abbrev pub IsSharedRefused : Definitions → Pointee → ℕ → ℕ → List Naming → Value → WriterState → WriterState → Error → Type 0
+IsSharedRefused D P n key keys v old new =
+    Explains (HindersRegion D P n keys v (begun (cursor old) key)) (RegionReaches D P n keys v (begun (cursor old) key)) old new

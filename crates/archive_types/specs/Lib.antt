@@ -53,4 +53,5 @@ pub use Rattle.archive_enum.specs.Choices
 pub use Rattle.archive_enum.specs.Orders
 pub use Rattle.archive_enum.specs.ResultShapes
 pub use Rattle.archive_write.specs.Sharing
+pub use Rattle.archive_write.specs.Writes
 pub use Rattle.archive_write.specs.Written

@@ -7,7 +7,7 @@ ghost use Rattle.archive_types.specs.Compared.{elements_from};
 ghost use Rattle.archive_types.specs.Words.Seen.{ShowsPartOf, elements_between};
 ghost use Rattle.archive_types.specs.Views.{element_in};
 
-mod bytes;
+mod numbers;
 mod owned;
 mod reading;
 mod sources;
@@ -17,7 +17,7 @@ use crate::slice::Iter;
 use crate::traits::Portable;
 use crate::view::{RawView, Ref};
 pub use owned::OwnedArray;
-pub use sources::each_is_whole;
+pub use sources::{ArrayResolver, each_is_whole};
 
 impl<'a, T: Portable, const N: usize> Ref<'a, [T; N]> {
     /// How many elements there are: `N`.

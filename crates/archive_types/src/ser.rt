@@ -3,13 +3,15 @@
 ghost use Rattle.std.specs.Prelude.{◌≡◌, ◌⊎◌, ◌+◌, ◌++◌, ◌*◌, ◌^◌, ◌<◌, ◌≤◌, ◌%◌, ◌↔◌, min, true, length, IfOk, OnOk, IfErr, FitsSigned};
 ghost use Rattle.std.specs.Int.{w32};
 ghost use Rattle.archive_check.specs.WriterState.{KeepsKeys};
-ghost use Rattle.archive_check.specs.Layout.{has_length};
+ghost use Rattle.archive_check.specs.Layout.{has_length, pointer_size};
 ghost use Rattle.archive_check.specs.Shape.{one};
 ghost use Rattle.archive_num.specs.Offsets.{distance};
+ghost use Rattle.archive_num.specs.OwnerBytes.{HindersPointerAt};
 ghost use Rattle.archive_types.specs.Causes.{HindersAt};
-ghost use Rattle.archive_types.specs.Words.WrittenPointers.{Pointed, PointerRefused};
+ghost use Rattle.archive_types.specs.Words.WrittenPointers.{Pointed};
 ghost use Rattle.archive_types.specs.Runs.{EachBelongs};
 ghost use Rattle.archive_types.specs.Writing.{ZeroedPlace, Resolves};
+ghost use Rattle.archive_write.specs.Writes.{ExplainsWrite};
 ghost use Rattle.archive_write.specs.Written.{GoesOn};
 ghost use Rattle.archive_types.specs.Outcomes.{ResolvesBytes, ResolvesPart, PutsRegion, PutsElements};
 ghost use Rattle.archive_types.specs.SourceOutcomes.{WritesOne};
@@ -342,8 +344,12 @@ pub trait ResolveExt: Writer {
         ensures fits { OnOk result (FitsSigned w32 (distance (Self.position self.old) to)) }
         ensures held { OnOk result (T.source_length value.now ≤ 4294967295) }
         ensures position { IfOk result (λ p. p ≡ Self.position self.old) }
-        ensures refused { IfErr result (PointerRefused T.Archived.pointee
-            (T.source_length value.now) to Self.position Self.Keys self) }
+        ensures cause { IfErr result (λ e. HindersPointerAt (T.source_length value.now)
+            (pointer_size T.Archived.pointee) (Self.position self.old) to e
+            ⊎ ExplainsWrite Self.state self Self.position (pointer_size T.Archived.pointee) e) }
+        ensures unchanged { IfErr result (λ e. HindersPointerAt (T.source_length value.now)
+            (pointer_size T.Archived.pointee) (Self.position self.old) to e
+            → Self.state self.new ≡ Self.state self.old) }
         ensures goes_on { GoesOn (Self.state self.old) (Self.state self.new) }
         ensures keys { KeepsKeys (Self.state self.old).states (Self.state self.new).states }
     {

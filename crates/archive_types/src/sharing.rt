@@ -2,9 +2,8 @@
 
 ghost use Rattle.std.specs.Prelude.{◌≡◌, ◌⊎◌, None, Option, Some, ℕ, IfOk, IfErr, OnErr};
 ghost use Rattle.archive_check.specs.WriterState.{KeepsBytes, KeepsKeys};
-ghost use Rattle.archive_types.specs.Causes.{Explains, HindersShared, HindersRegion, RegionReaches};
-ghost use Rattle.archive_types.specs.Plans.{cursor, begun, SerializedShared};
-ghost use Rattle.archive_types.specs.Words.SharedPointers.{SharedRefused};
+ghost use Rattle.archive_types.specs.Causes.{IsSharedRefused};
+ghost use Rattle.archive_types.specs.Plans.{SerializedShared};
 ghost use Rattle.archive_write.specs.Sharing.{known_answer};
 ghost use Rattle.archive_write.specs.Written.{GoesOn};
 
@@ -43,8 +42,10 @@ pub trait SharingExt: Sharing + Writer {
             (T.source_length value.now) key (T.keys value.now) (T.meaning value.now) p
             (Self.state self.old) (Self.state self.new)) }
         ensures goes_on { GoesOn (Self.state self.old) (Self.state self.new) }
-        ensures refused { IfErr result (SharedRefused key T.ArchiveUnsized T.Archived.ArchivePointee
-            value.now Self.Keys self) }
+        ensures refused { (Self.state self.old).states key ≡ None
+            → IfErr result (IsSharedRefused T.Archived.definitions T.Archived.pointee
+            (T.source_length value.now) key (T.keys value.now) (T.meaning value.now)
+            (Self.state self.old) (Self.state self.new)) }
         ensures finished { IfOk result (λ p. (Self.state self.new).states key ≡ Some (Some p)) }
         ensures unfinished { OnErr result (((Self.state self.new).states key ≡ None)
             ⊎ ((Self.state self.new).states key ≡ Some None)) }

@@ -19,7 +19,7 @@ ghost use Rattle.archive_write.specs.Written.{GoesOn};
 ghost use Rattle.archive_types.specs.Causes.{HindersAt, IsRefused, IsRegionRefused};
 ghost use Rattle.archive_types.specs.Members.Keyed.{text_keyed};
 ghost use Rattle.archive_num.specs.Offsets.{distance, IsTooFar};
-ghost use Rattle.archive_types.specs.Words.WrittenPointers.{IsTooFarFrom, AtOnce, Added};
+ghost use Rattle.archive_types.specs.Words.WrittenPointers.{IsTooFarFrom, AtOnce, BytesAdded};
 ghost use Rattle.archive_types.specs.Members.Planned.{string_planned, text_planned};
 ghost use Rattle.archive_types.specs.Members.PlannedOwners.{is_long, one_planned};
 ghost use Rattle.archive_types.specs.Plans.{Serialized, SerializedRegion};
@@ -219,8 +219,7 @@ impl<'a, S: Writer + Keys> SerializeUnsized<S> for Text<'a> {
         ensures outcome { WritesUnsized ⟦<Self as ArchiveUnsized>⟧
             ⟦<Self::Archived as ArchivePointee>⟧ self.now S.Keys serializer result }
         ensures there { IfOk result (λ p. p ≡ length (S.state serializer.old).bytes) }
-        ensures text { OnOk result ((S.state serializer.new).bytes ≡ (S.state serializer.old).bytes
-            ++ self.now.text.now) }
+        ensures text { OnOk result (BytesAdded self.now.text.now S.Keys serializer) }
         ensures keys { KeepsKeys (S.state serializer.old).states (S.state serializer.new).states }
         ensures too_long { 4294967295 < length self.now.text.now
             → AtOnce result LengthTooLarge S.Keys serializer }
@@ -277,7 +276,9 @@ impl ArchivedString {
             → AtOnce result StringTooLong S.Keys serializer }
         ensures near { 8 < length value.now → OnOk result
             (length (S.state serializer.old).bytes ≤ 4294967295) }
-        ensures elsewhere { 8 < length value.now → IfOk result (Added value.now S.Keys serializer) }
+        ensures there { 8 < length value.now → IfOk result (λ p. p
+            ≡ length (S.state serializer.old).bytes) }
+        ensures text { 8 < length value.now → OnOk result (BytesAdded value.now S.Keys serializer) }
         ensures keys { KeepsKeys (S.state serializer.old).states (S.state serializer.new).states }
         ensures cause { IfErr result (ExplainsStringRefusal value.now (S.position serializer.old)
             (S.state serializer.old) (S.state serializer.new)) }
@@ -391,8 +392,10 @@ impl<S: Writer + Keys> Serialize<S> for String {
             × (S.state serializer.new ≡ S.state serializer.old) }
         ensures too_long { 1073741823 < length (string_bytes self.now)
             → AtOnce result StringTooLong S.Keys serializer }
-        ensures elsewhere { 8 < length (string_bytes self.now)
-            → IfOk result (Added (string_bytes self.now) S.Keys serializer) }
+        ensures there { 8 < length (string_bytes self.now) → IfOk result (λ p. p
+            ≡ length (S.state serializer.old).bytes) }
+        ensures text { 8 < length (string_bytes self.now)
+            → OnOk result (BytesAdded (string_bytes self.now) S.Keys serializer) }
         ensures cause { IfErr result (ExplainsStringRefusal (string_bytes self.now)
             (S.position serializer.old) (S.state serializer.old) (S.state serializer.new)) }
     {

@@ -1,4 +1,4 @@
-//! The keys that are known: a map of their states, and slots for finished ones that are found again.
+//! The keys that are known: a map of their states, and slots for finished ones that are found again. Those of a pool are positions.
 
 ghost use Rattle.std.specs.Prelude.{◌≡◌, ◌+◌, ◌≤◌, ◌<◌, None, Some, OnOk, OnErr, IfOk, IsTrue, IsFalse, is_some, nat_eq};
 ghost use Rattle.std.specs.HashMap.{get, spare};
@@ -10,50 +10,58 @@ ghost use Rattle.archive_write.specs.Writes.{IsStarted};
 
 use crate::repeats::Repeats;
 use archive_check::format::error::Error;
-use std::alloc::{AllocError, Allocator};
+use std::alloc::{AllocError, Allocator, Global};
 use std::collections::HashMap;
 use std::hash::{BuildHasherDefault, FoldHasher};
 
 type States<A> = HashMap<u64, Option<usize>, BuildHasherDefault<FoldHasher>, A>;
 
-/// The states of keys. A key that many pointers have is finished, and found in a slot.
+/// The states of keys: each is unknown, pending, or finished with a number, as its position or an
+/// index. One that is found again and again is found in a slot.
 #[derive(Drop)]
-pub(crate) struct KnownKeys<A: Allocator> {
+pub struct KnownKeys<A: Allocator = Global> {
     states: States<A>,
     repeats: Repeats<usize, A>,
     ghost recalls: { AreFinishedKeys repeats.slots (get nat_eq states) },
 }
 
 impl<A: Allocator + Clone> KnownKeys<A> {
-    /// No key. Memory comes from `alloc`, and none is taken yet.
-    pub(crate) fn new(alloc: A) -> Result<KnownKeys<A>, AllocError>
-        ensures { IfOk result (λ known. KnowsNone (get nat_eq known.states)) }
+    /// No key. Memory comes from `alloc`, for slots from `slots`, and none is taken yet.
+    pub fn new(alloc: A, slots: A) -> KnownKeys<A>
+        ensures { KnowsNone (get nat_eq result.states) }
     {
-        Ok(KnownKeys {
-            states: HashMap::new(alloc.clone()?),
-            repeats: Repeats::new(alloc),
-        })
+        KnownKeys {
+            states: HashMap::new(alloc),
+            repeats: Repeats::new(slots),
+        }
     }
 
     /// No key, and room for `capacity` of them. Fails if memory from `alloc` is refused.
-    pub(crate) fn with_capacity(alloc: A, capacity: usize) -> Result<KnownKeys<A>, AllocError>
+    pub fn with_capacity(alloc: A, slots: A, capacity: usize) -> Result<KnownKeys<A>, AllocError>
         ensures fresh { IfOk result (λ known. KnowsNone (get nat_eq known.states)) }
         ensures room { IfOk result (λ known. capacity ≤ spare known.states) }
     {
         Ok(KnownKeys {
-            states: HashMap::with_capacity(alloc.clone()?, capacity)?,
-            repeats: Repeats::new(alloc),
+            states: HashMap::with_capacity(alloc, capacity)?,
+            repeats: Repeats::new(slots),
         })
     }
 
-    /// The state of a key: pending, or finished at a position; none where it is unknown.
+    /// Whether a key is pending or finished.
+    pub fn is_known(&self, key: u64) -> bool
+        ensures { result ≡ is_some (get nat_eq self.now.states key) }
+    {
+        self.states.contains_key(&key)
+    }
+
+    /// The state of a key: pending, or finished with a number; none where it is unknown.
     #[inline(always)]
-    pub(crate) fn find(&mut self, key: u64) -> Option<Option<usize>>
+    pub fn find(&mut self, key: u64) -> Option<Option<usize>>
         ensures state { result ≡ get nat_eq self.old.states key }
         ensures same { self.new.states ≡ self.old.states }
     {
         match self.repeats.get(key) {
-            Some(position) => Some(Some(*position)),
+            Some(number) => Some(Some(*number)),
             None => self.search(key),
         }
     }
@@ -65,14 +73,14 @@ impl<A: Allocator + Clone> KnownKeys<A> {
         ensures same { self.new.states ≡ self.old.states }
     {
         let state = self.states.get(&key).copied();
-        if let Some(Some(position)) = state {
-            self.repeats.add_found(key, position, self.states.len());
+        if let Some(Some(number)) = state {
+            self.repeats.add_found(key, number, self.states.len());
         }
         state
     }
 
     /// Starts an unknown key, and returns whether there was memory for it.
-    pub(crate) fn start(&mut self, key: u64) -> bool
+    pub fn start(&mut self, key: u64) -> bool
         requires { get nat_eq self.old.states key ≡ None }
         ensures started { IsTrue result → IsStarted (get nat_eq self.old.states) key
             (get nat_eq self.new.states) }
@@ -84,10 +92,11 @@ impl<A: Allocator + Clone> KnownKeys<A> {
         self.states.insert(key, None).is_ok()
     }
 
-    /// Finishes the pending `key` at `position`. Takes no memory.
-    pub(crate) fn finish(&mut self, key: u64, position: usize) -> Result<(), Error>
+    /// Finishes the pending `key` with `number`. Takes no memory. Fails with `NotStarted` if it is
+    /// unknown, and with `AlreadyFinished` if it is finished already.
+    pub fn finish(&mut self, key: u64, number: usize) -> Result<(), Error>
         ensures answer { result ≡ finish_answer is_some (get nat_eq self.old.states key) }
-        ensures after { OnOk result (IsSet (get nat_eq self.old.states) key (Some (Some position))
+        ensures after { OnOk result (IsSet (get nat_eq self.old.states) key (Some (Some number))
             (get nat_eq self.new.states)) }
         ensures unchanged { OnErr result (KeepsKeys (get nat_eq self.old.states)
             (get nat_eq self.new.states)) }
@@ -99,14 +108,14 @@ impl<A: Allocator + Clone> KnownKeys<A> {
                 if state.is_some() {
                     return Err(Error::AlreadyFinished);
                 }
-                *state = Some(position);
+                *state = Some(number);
                 Ok(())
             }
         }
     }
 
     /// Forgets every key. Takes no memory, and keeps what it has.
-    pub(crate) fn clear(&mut self)
+    pub fn clear(&mut self)
         ensures fresh { KnowsNone (get nat_eq self.new.states) }
         ensures room { spare self.old.states ≤ spare self.new.states }
     {

@@ -5,7 +5,7 @@ ghost use Rattle.std.specs.Prelude.{IfSome};
 ghost use Rattle.archive_check.specs.Slots.{SlotsSay, SlotsSayNothing, SlotsSayNoMore, SlotsSayBesides};
 
 use archive_check::slots::Slots;
-use std::alloc::{Allocator, Global};
+use std::alloc::Allocator;
 
 // With fewer finds no slots are made.
 const FEW: usize = 14;
@@ -19,7 +19,7 @@ const FEW: usize = 14;
 /// let position = repeats.get(7);                            // `None`, or `Some(&40)`
 /// ```
 #[derive(Drop)]
-pub struct Repeats<V: Copy, A: Allocator = Global> {
+pub(crate) struct Repeats<V: Copy, A: Allocator> {
     slots: Slots<V, A>,
     // The finds since slots were made, by the time none is left to be counted.
     finds: usize,
@@ -29,7 +29,7 @@ pub struct Repeats<V: Copy, A: Allocator = Global> {
 
 impl<V: Copy + Default, A: Allocator + Clone> Repeats<V, A> {
     /// No slot. Memory comes from `alloc`, and none is taken yet.
-    pub fn new(alloc: A) -> Repeats<V, A>
+    pub(crate) fn new(alloc: A) -> Repeats<V, A>
         ensures { SlotsSayNothing result.slots }
     {
         Repeats {
@@ -41,7 +41,7 @@ impl<V: Copy + Default, A: Allocator + Clone> Repeats<V, A> {
 
     /// What was added of `key`, where a slot has it.
     #[inline(always)]
-    pub fn get(&self, key: u64) -> Option<&V>
+    pub(crate) fn get(&self, key: u64) -> Option<&V>
         ensures { IfSome result (λ value. SlotsSay self.now.slots key value.now) }
     {
         if self.slots.is_empty() {
@@ -53,7 +53,7 @@ impl<V: Copy + Default, A: Allocator + Clone> Repeats<V, A> {
     /// Adds a key that was found with this value in a map of `count` keys. Takes memory only for
     /// slots, and does without them if it is refused.
     #[inline(always)]
-    pub fn add_found(&mut self, key: u64, value: V, count: usize)
+    pub(crate) fn add_found(&mut self, key: u64, value: V, count: usize)
         ensures { SlotsSayBesides self.old.slots self.new.slots key value }
     {
         self.left = self.left.wrapping_sub(1);
@@ -81,7 +81,7 @@ impl<V: Copy + Default, A: Allocator + Clone> Repeats<V, A> {
     }
 
     /// Frees each slot, and counts anew. Takes no memory, and keeps what it has.
-    pub fn clear(&mut self)
+    pub(crate) fn clear(&mut self)
         ensures { SlotsSayNothing self.new.slots }
     {
         self.slots.clear();

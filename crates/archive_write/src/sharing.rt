@@ -108,7 +108,7 @@ impl<A: Allocator + Clone> Share<A> {
     {
         let states = Box::new(
             alloc.clone()?,
-            KnownKeys::with_capacity(alloc.clone()?, capacity)?,
+            KnownKeys::with_capacity(alloc.clone()?, alloc.clone()?, capacity)?,
         )?;
         Ok(Share {
             alloc,
@@ -155,7 +155,7 @@ impl<A: Allocator + Clone> Share<A> {
         ensures refusal { IfErr result (λ e. (e ≡ Error.OutOfMemory) × (self.old.states ≡ None)) }
     {
         if self.states.is_none() {
-            let states = KnownKeys::new(self.alloc.clone()?)?;
+            let states = KnownKeys::new(self.alloc.clone()?, self.alloc.clone()?);
             self.states = Some(Box::new(self.alloc.clone()?, states)?);
         }
         Ok(())

@@ -9,6 +9,8 @@ pub struct Crop {
     pub moved: Result<[i16; 2], String>,
     /// How its edges are bent, to both sides.
     pub bends: [[i8; 2]; 2],
+    /// The places that are marked in it.
+    pub marks: Vec<[u16; 2]>,
 }
 
 // Below this line all is written by tools/derive: change what is above it, and run it again.
@@ -17,13 +19,13 @@ ghost use Rattle.archive_core.specs.Arrays.{array_keyed, array_planned};
 ghost use Rattle.archive_core.specs.CallOutcomes.{ResolvesAs};
 ghost use Rattle.archive_core.specs.Definitions.{both, no_definition};
 ghost use Rattle.archive_core.specs.Fields.{field_in};
-ghost use Rattle.archive_core.specs.Keyed.{nothing_keyed, number_keyed, part_keyed, record_keyed, text_keyed};
+ghost use Rattle.archive_core.specs.Keyed.{each_keyed, nothing_keyed, number_keyed, part_keyed, record_keyed, text_keyed};
 ghost use Rattle.archive_core.specs.LeafLayout.{no_definition_reached};
 ghost use Rattle.archive_core.specs.Options.{option_keyed, option_planned};
 ghost use Rattle.archive_core.specs.PartsPlanned.{no_part_planned, part_planned};
 ghost use Rattle.archive_core.specs.Plain.{plain_own_check, plain_record, plain_record_planned};
 ghost use Rattle.archive_core.specs.Planned.{leaf_planned, string_planned};
-ghost use Rattle.archive_core.specs.PlannedOwners.{one_planned};
+ghost use Rattle.archive_core.specs.PlannedOwners.{one_planned, slice_planned, vec_planned};
 ghost use Rattle.archive_core.specs.ReadBack.{ReadsAs};
 ghost use Rattle.archive_core.specs.Results.{result_keyed, result_planned};
 ghost use Rattle.archive_core.specs.SealOutcomes.{IsSealOf, SealsPart};
@@ -36,10 +38,10 @@ ghost use Rattle.std.specs.Prelude.{None, [], length, refl, string_bytes, true, 
 
 use archive_core::core_impls::OwnedArray;
 use archive_core::error::Error;
-use archive_core::fields::{part_in_record, resolve_record_3, serialize_record_3};
+use archive_core::fields::{part_in_record, resolve_record_4, serialize_record_4};
 use archive_core::option::ArchivedOption;
 use archive_core::place::Place;
-use archive_core::primitive::{ArchivedI16, ArchivedU32};
+use archive_core::primitive::{ArchivedI16, ArchivedU16, ArchivedU32};
 use archive_core::record::deserialize_record;
 use archive_core::result::ArchivedResult;
 use archive_core::seal::{Seal, sealed_part_in_record};
@@ -48,68 +50,40 @@ use archive_core::ser::{ResolverAlloc, Writer, serialize_one};
 use archive_core::shape::Defs;
 use archive_core::string::ArchivedString;
 use archive_core::traits::{
-    Archive, ArchivePointee, ArchiveUnsized, CopyOptimization, Deserialize, Entries, Keys,
-    Portable, Record, Serialize, SerializeUnsized, expr_of_record,
+    Archive, ArchivePointee, ArchiveUnsized, CopyOptimization, Deserialize, Entries, FourParts,
+    Keys, Portable, Record, Serialize, SerializeUnsized, expr_of_record,
 };
 use archive_core::validation::ArchiveContext;
+use archive_core::vec::ArchivedVec;
 use archive_core::view::{RawView, Ref};
 use std::alloc::Global;
 
-// A `[[i8; 2]; 2]` of what is read back in its place.
-fn made_array2_array2_i8(read: OwnedArray<OwnedArray<i8, 2>, 2>) -> [[i8; 2]; 2]
-    ensures { result ≡ read }
-{
-    let [a0, a1] = read.into_array();
-    [a0.into_array(), a1.into_array()]
-}
-
-// A `Option<[u32; 4]>` of what is read back in its place.
-fn made_option_array4_u32(read: Option<OwnedArray<u32, 4>>) -> Option<[u32; 4]>
-    ensures { result ≡ read }
-{
-    match read {
-        Some(value) => Some(value.into_array()),
-        None => None,
-    }
-}
-
-// A `Result<[i16; 2], String>` of what is read back in its place.
-fn made_result_array2_i16_string(
-    read: Result<OwnedArray<i16, 2>, String>,
-) -> Result<[i16; 2], String>
-    ensures { result ≡ read }
-{
-    match read {
-        Ok(value) => Ok(value.into_array()),
-        Err(value) => Err(value),
-    }
-}
-
-/// An archived `Crop`: 36 bytes at a multiple of 4.
+/// An archived `Crop`: 44 bytes at a multiple of 4.
 pub struct ArchivedCrop;
 
-type CropParts = (
+type CropParts = FourParts<
     ArchivedOption<[ArchivedU32; 4]>,
-    (
-        ArchivedResult<[ArchivedI16; 2], ArchivedString>,
-        ([[i8; 2]; 2], ()),
-    ),
-);
+    ArchivedResult<[ArchivedI16; 2], ArchivedString>,
+    [[i8; 2]; 2],
+    ArchivedVec<[ArchivedU16; 2]>,
+    (),
+>;
 
-type CropOwned = (
-    Option<OwnedArray<u32, 4>>,
-    (
-        Result<OwnedArray<i16, 2>, String>,
-        (OwnedArray<OwnedArray<i8, 2>, 2>, ()),
-    ),
-);
+type CropOwned = FourParts<
+    Option<[u32; 4]>,
+    Result<[i16; 2], String>,
+    OwnedArray<[i8; 2], 2>,
+    Vec<[u16; 2]>,
+    (),
+>;
 
 impl ArchivePointee for ArchivedCrop {
     type ArchivedMetadata = ();
 
     ghost pointee = { one (parts (part ⟦<ArchivedOption<[ArchivedU32; 4]> as Portable>⟧.shape
         (part ⟦<ArchivedResult<[ArchivedI16; 2], ArchivedString> as Portable>⟧.shape
-        (part ⟦<[[i8; 2]; 2] as Portable>⟧.shape no_part)))) };
+        (part ⟦<[[i8; 2]; 2] as Portable>⟧.shape
+        (part ⟦<ArchivedVec<[ArchivedU16; 2]> as Portable>⟧.shape no_part))))) };
 
     ghost definitions = { no_definition };
 
@@ -123,9 +97,10 @@ impl ArchivePointee for ArchivedCrop {
 impl Portable for ArchivedCrop {
     ghost shape = { parts (part ⟦<ArchivedOption<[ArchivedU32; 4]> as Portable>⟧.shape
         (part ⟦<ArchivedResult<[ArchivedI16; 2], ArchivedString> as Portable>⟧.shape
-        (part ⟦<[[i8; 2]; 2] as Portable>⟧.shape no_part))) };
+        (part ⟦<[[i8; 2]; 2] as Portable>⟧.shape
+        (part ⟦<ArchivedVec<[ArchivedU16; 2]> as Portable>⟧.shape no_part)))) };
 
-    ghost layout = { record { size = 36; align = 4 } };
+    ghost layout = { record { size = 44; align = 4 } };
 
     type Check = ArchivedCrop;
 
@@ -138,12 +113,13 @@ impl Portable for ArchivedCrop {
     ghost no_others = { no_definition_reached (parts (part
         ⟦<ArchivedOption<[ArchivedU32; 4]> as Portable>⟧.shape
         (part ⟦<ArchivedResult<[ArchivedI16; 2], ArchivedString> as Portable>⟧.shape
-        (part ⟦<[[i8; 2]; 2] as Portable>⟧.shape no_part)))) };
+        (part ⟦<[[i8; 2]; 2] as Portable>⟧.shape
+        (part ⟦<ArchivedVec<[ArchivedU16; 2]> as Portable>⟧.shape no_part))))) };
 
     ghost checks = { λ _. plain_own_check _ _ _ _ _ refl refl refl refl };
 
     fn size() -> usize {
-        36
+        44
     }
 
     fn align() -> usize {
@@ -162,12 +138,13 @@ impl Portable for ArchivedCrop {
 impl SelfCheck for ArchivedCrop {
     ghost shape = { parts (part ⟦<ArchivedOption<[ArchivedU32; 4]> as Portable>⟧.shape
         (part ⟦<ArchivedResult<[ArchivedI16; 2], ArchivedString> as Portable>⟧.shape
-        (part ⟦<[[i8; 2]; 2] as Portable>⟧.shape no_part))) };
+        (part ⟦<[[i8; 2]; 2] as Portable>⟧.shape
+        (part ⟦<ArchivedVec<[ArchivedU16; 2]> as Portable>⟧.shape no_part)))) };
 
     ghost definitions = { (both no_definition (both (both no_definition no_definition)
-        (both no_definition no_definition))) };
+        (both no_definition (both no_definition no_definition)))) };
 
-    ghost span = { 36 };
+    ghost span = { 44 };
 
     ghost direct = { true };
 
@@ -197,9 +174,10 @@ impl Record for ArchivedCrop {
 
     ghost has_parts = { plain_record (part ⟦<ArchivedOption<[ArchivedU32; 4]> as Portable>⟧.shape
         (part ⟦<ArchivedResult<[ArchivedI16; 2], ArchivedString> as Portable>⟧.shape
-        (part ⟦<[[i8; 2]; 2] as Portable>⟧.shape no_part)))
+        (part ⟦<[[i8; 2]; 2] as Portable>⟧.shape
+        (part ⟦<ArchivedVec<[ArchivedU16; 2]> as Portable>⟧.shape no_part))))
         (both no_definition (both (both no_definition no_definition)
-        (both no_definition no_definition))) refl };
+        (both no_definition (both no_definition no_definition)))) refl };
 
     ghost holds = { lit≤ tt };
 }
@@ -211,7 +189,10 @@ pub struct CropResolver {
         <Option<[u32; 4]> as Archive>::Resolver,
         (
             <Result<[i16; 2], String> as Archive>::Resolver,
-            (<[[i8; 2]; 2] as Archive>::Resolver, ()),
+            (
+                <[[i8; 2]; 2] as Archive>::Resolver,
+                (<Vec<[u16; 2]> as Archive>::Resolver, ()),
+            ),
         ),
     ),
 }
@@ -223,19 +204,23 @@ impl Archive for Crop {
 
     ghost meaning = { λ v. product (value (⟦<Option<[u32; 4]> as Archive>⟧.meaning v.area)
         (value (⟦<Result<[i16; 2], String> as Archive>⟧.meaning v.moved)
-        (value (⟦<[[i8; 2]; 2] as Archive>⟧.meaning v.bends) no_value))) };
+        (value (⟦<[[i8; 2]; 2] as Archive>⟧.meaning v.bends)
+        (value (⟦<Vec<[u16; 2]> as Archive>⟧.meaning v.marks) no_value)))) };
 
     ghost flat = { λ v r. product (value (⟦<Option<[u32; 4]> as Archive>⟧.flat v.area r.kept.0)
         (value (⟦<Result<[i16; 2], String> as Archive>⟧.flat v.moved r.kept.1.0)
-        (value (⟦<[[i8; 2]; 2] as Archive>⟧.flat v.bends r.kept.1.1.0) no_value))) };
+        (value (⟦<[[i8; 2]; 2] as Archive>⟧.flat v.bends r.kept.1.1.0)
+        (value (⟦<Vec<[u16; 2]> as Archive>⟧.flat v.marks r.kept.1.1.1.0) no_value)))) };
 
     ghost keys = { λ v. ⟦<Option<[u32; 4]> as Archive>⟧.keys v.area
         ++ (⟦<Result<[i16; 2], String> as Archive>⟧.keys v.moved
-        ++ (⟦<[[i8; 2]; 2] as Archive>⟧.keys v.bends ++ [])) };
+        ++ (⟦<[[i8; 2]; 2] as Archive>⟧.keys v.bends ++ (⟦<Vec<[u16; 2]> as Archive>⟧.keys v.marks
+        ++ []))) };
 
     ghost belongs = { λ v r. ⟦<Option<[u32; 4]> as Archive>⟧.belongs v.area r.kept.0
         × (⟦<Result<[i16; 2], String> as Archive>⟧.belongs v.moved r.kept.1.0
-        × (⟦<[[i8; 2]; 2] as Archive>⟧.belongs v.bends r.kept.1.1.0 × Unit {0})) };
+        × (⟦<[[i8; 2]; 2] as Archive>⟧.belongs v.bends r.kept.1.1.0
+        × (⟦<Vec<[u16; 2]> as Archive>⟧.belongs v.marks r.kept.1.1.1.0 × Unit {0}))) };
 
     ghost in_bulk = { None };
 
@@ -248,13 +233,17 @@ impl Archive for Crop {
         x) (λ x. text_keyed (string_bytes x)) v.moved) (part_keyed
         (array_keyed 2 ⟦<[i8; 2] as Archive>⟧.keys ⟦<[i8; 2] as Archive>⟧.meaning
         (λ x. array_keyed 2 ⟦<i8 as Archive>⟧.keys ⟦<i8 as Archive>⟧.meaning (λ x. number_keyed _)
-        x) v.bends) nothing_keyed))) };
+        x) v.bends) (part_keyed (each_keyed ⟦<[u16; 2] as Archive>⟧.keys
+        ⟦<[u16; 2] as Archive>⟧.meaning (λ x. array_keyed 2 ⟦<u16 as Archive>⟧.keys
+        ⟦<u16 as Archive>⟧.meaning (λ x. number_keyed _) x) v.marks.items) nothing_keyed)))) };
 
     ghost planned = { λ v. plain_record_planned (both no_definition
-        (both (both no_definition no_definition) (both no_definition no_definition)))
+        (both (both no_definition no_definition) (both no_definition
+        (both no_definition no_definition))))
         (part ⟦<ArchivedOption<[ArchivedU32; 4]> as Portable>⟧.shape
         (part ⟦<ArchivedResult<[ArchivedI16; 2], ArchivedString> as Portable>⟧.shape
-        (part ⟦<[[i8; 2]; 2] as Portable>⟧.shape no_part))) _ _
+        (part ⟦<[[i8; 2]; 2] as Portable>⟧.shape
+        (part ⟦<ArchivedVec<[ArchivedU16; 2]> as Portable>⟧.shape no_part)))) _ _
         (part_planned no_definition ⟦<ArchivedOption<[ArchivedU32; 4]> as Portable>⟧.shape
         (⟦<Option<[u32; 4]> as Archive>⟧.keys v.area) (⟦<Option<[u32; 4]> as Archive>⟧.meaning
         v.area) (option_planned no_definition ⟦<[ArchivedU32; 4] as Portable>⟧.shape
@@ -278,7 +267,16 @@ impl Archive for Crop {
         (array_planned 2 no_definition ⟦<[i8; 2] as Portable>⟧.shape ⟦<[i8; 2] as Archive>⟧.keys
         ⟦<[i8; 2] as Archive>⟧.meaning (λ x. array_planned 2 no_definition ⟦<i8 as Portable>⟧.shape
         ⟦<i8 as Archive>⟧.keys ⟦<i8 as Archive>⟧.meaning
-        (λ x. leaf_planned no_definition _ _ [] _ refl) x) v.bends) no_part_planned))) refl };
+        (λ x. leaf_planned no_definition _ _ [] _ refl) x) v.bends)
+        (part_planned no_definition ⟦<ArchivedVec<[ArchivedU16; 2]> as Portable>⟧.shape
+        (⟦<Vec<[u16; 2]> as Archive>⟧.keys v.marks) (⟦<Vec<[u16; 2]> as Archive>⟧.meaning v.marks)
+        (vec_planned no_definition ⟦<[ArchivedU16; 2] as Portable>⟧.shape _ _ _
+        (slice_planned no_definition ⟦<[ArchivedU16; 2] as Portable>⟧.shape
+        ⟦<[u16; 2] as Archive>⟧.keys ⟦<[u16; 2] as Archive>⟧.meaning
+        (λ x. array_planned 2 no_definition ⟦<ArchivedU16 as Portable>⟧.shape
+        ⟦<u16 as Archive>⟧.keys ⟦<u16 as Archive>⟧.meaning
+        (λ x. leaf_planned no_definition _ _ [] _ refl) x) v.marks.items)) no_part_planned))))
+        refl };
 
     #[inline(always)]
     fn resolve(
@@ -286,17 +284,24 @@ impl Archive for Crop {
         resolver: Self::Resolver,
         place: Place<'_, Self::Archived>,
     ) -> Result<(), Error>
-        requires zeroed { ZeroedPlace 36 place.pos place.bytes.now }
+        requires zeroed { ZeroedPlace 44 place.pos place.bytes.now }
         requires same_value { ⟦<Self as Archive>⟧.belongs self.now resolver }
         ensures { ResolvesAs ⟦<Self::Archived as Portable>⟧ place
             (⟦<Self as Archive>⟧.flat self.now resolver) result }
     {
         let Place { bytes, pos, .. } = place;
         let CropResolver { kept } = resolver;
-        resolve_record_3::<Option<[u32; 4]>, Result<[i16; 2], String>, [[i8; 2]; 2], ArchivedCrop>(
+        resolve_record_4::<
+            Option<[u32; 4]>,
+            Result<[i16; 2], String>,
+            [[i8; 2]; 2],
+            Vec<[u16; 2]>,
+            ArchivedCrop,
+        >(
             &self.area,
             &self.moved,
             &self.bends,
+            &self.marks,
             kept,
             Place::new(pos, bytes),
         )
@@ -320,14 +325,20 @@ impl Archive for Crop {
 impl<S: Writer + ResolverAlloc<Alloc = Global>> Serialize<S> for Crop {
     #[inline(always)]
     fn serialize(&self, serializer: &mut S) -> Result<Self::Resolver, Error> {
-        match serialize_record_3::<
+        match serialize_record_4::<
             Option<[u32; 4]>,
             Result<[i16; 2], String>,
             [[i8; 2]; 2],
+            Vec<[u16; 2]>,
             ArchivedCrop,
             S,
-        >(&self.area, &self.moved, &self.bends, serializer)
-        {
+        >(
+            &self.area,
+            &self.moved,
+            &self.bends,
+            &self.marks,
+            serializer,
+        ) {
             Ok(kept) => Ok(CropResolver { kept }),
             Err(error) => Err(error),
         }
@@ -353,8 +364,9 @@ impl ArchiveUnsized for Crop {
     ghost planned = { λ v. one_planned no_definition (parts
         (part ⟦<ArchivedOption<[ArchivedU32; 4]> as Portable>⟧.shape
         (part ⟦<ArchivedResult<[ArchivedI16; 2], ArchivedString> as Portable>⟧.shape
-        (part ⟦<[[i8; 2]; 2] as Portable>⟧.shape no_part)))) (⟦<Crop as Archive>⟧.keys v)
-        (⟦<Crop as Archive>⟧.meaning v) (planned_of_crop v) };
+        (part ⟦<[[i8; 2]; 2] as Portable>⟧.shape
+        (part ⟦<ArchivedVec<[ArchivedU16; 2]> as Portable>⟧.shape no_part)))))
+        (⟦<Crop as Archive>⟧.keys v) (⟦<Crop as Archive>⟧.meaning v) (planned_of_crop v) };
 
     #[inline(always)]
     fn archived_metadata(&self) -> Result<(), Error> {
@@ -372,18 +384,28 @@ impl<S: Writer + ResolverAlloc<Alloc = Global>> SerializeUnsized<S> for Crop {
 // The `Crop` of these values, one after another.
 fn crop_of(values: CropOwned) -> Crop
     ensures meaning { ⟦<Crop as Archive>⟧.meaning result
-        ≡ product (value (⟦<Option<OwnedArray<u32, 4>> as Archive>⟧.meaning values.0)
-        (value (⟦<Result<OwnedArray<i16, 2>, String> as Archive>⟧.meaning values.1.0)
-        (value (⟦<OwnedArray<OwnedArray<i8, 2>, 2> as Archive>⟧.meaning values.1.1.0) no_value))) }
-    ensures keys { ⟦<Crop as Archive>⟧.keys result ≡ ⟦<Option<OwnedArray<u32, 4>> as Archive>⟧.keys
-        values.0 ++ (⟦<Result<OwnedArray<i16, 2>, String> as Archive>⟧.keys values.1.0
-        ++ (⟦<OwnedArray<OwnedArray<i8, 2>, 2> as Archive>⟧.keys values.1.1.0 ++ [])) }
+        ≡ product (value (⟦<Option<[u32; 4]> as Archive>⟧.meaning values.first)
+        (value (⟦<Result<[i16; 2], String> as Archive>⟧.meaning values.second)
+        (value (⟦<OwnedArray<[i8; 2], 2> as Archive>⟧.meaning values.third)
+        (value (⟦<Vec<[u16; 2]> as Archive>⟧.meaning values.fourth) no_value)))) }
+    ensures keys { ⟦<Crop as Archive>⟧.keys result ≡ ⟦<Option<[u32; 4]> as Archive>⟧.keys
+        values.first ++ (⟦<Result<[i16; 2], String> as Archive>⟧.keys values.second
+        ++ (⟦<OwnedArray<[i8; 2], 2> as Archive>⟧.keys values.third
+        ++ (⟦<Vec<[u16; 2]> as Archive>⟧.keys values.fourth ++ []))) }
 {
-    let (a0, (a1, (a2, ()))) = values;
+    let FourParts {
+        first: a0,
+        second: a1,
+        third: a2,
+        fourth: a3,
+        rest,
+    } = values;
+    let () = rest;
     Crop {
-        area: made_option_array4_u32(a0),
-        moved: made_result_array2_i16_string(a1),
-        bends: made_array2_array2_i8(a2),
+        area: a0,
+        moved: a1,
+        bends: a2.into_array(),
+        marks: a3,
     }
 }
 
@@ -415,6 +437,9 @@ pub trait CropView<'a> {
 
     /// How its edges are bent, to both sides.
     fn bends(self) -> Ref<'a, [[i8; 2]; 2]>;
+
+    /// The places that are marked in it.
+    fn marks(self) -> Ref<'a, ArchivedVec<[ArchivedU16; 2]>>;
 }
 
 impl<'a> CropView<'a> for Ref<'a, ArchivedCrop> {
@@ -446,6 +471,15 @@ impl<'a> CropView<'a> for Ref<'a, ArchivedCrop> {
     {
         part_in_record::<ArchivedCrop, [[i8; 2]; 2]>(self, 2, 32)
     }
+
+    fn marks(self) -> Ref<'a, ArchivedVec<[ArchivedU16; 2]>>
+        ensures buffer { result.bytes.now ≡ self.entry.bytes.now }
+        ensures position { result.pos ≡ self.entry.pos + 36 }
+        ensures length { result.len ≡ 0 }
+        ensures shows { ShowsValueOf result self.entry (field_in 3) }
+    {
+        part_in_record::<ArchivedCrop, ArchivedVec<[ArchivedU16; 2]>>(self, 3, 36)
+    }
 }
 
 /// The fields of an archived `Crop`, as seals.
@@ -463,6 +497,10 @@ pub trait CropSeal<'a> {
 
     /// How its edges are bent, to both sides.
     fn bends_mut(self) -> Seal<'a, [[i8; 2]; 2]>
+        requires { sealed self };
+
+    /// The places that are marked in it.
+    fn marks_mut(self) -> Seal<'a, ArchivedVec<[ArchivedU16; 2]>>
         requires { sealed self };
 }
 
@@ -496,5 +534,14 @@ impl<'a> CropSeal<'a> for Seal<'a, ArchivedCrop> {
             ⟦<[[i8; 2]; 2] as ArchivePointee>⟧.pointee (self.entry.pos + 32) 0 self.entry result }
     {
         sealed_part_in_record::<ArchivedCrop, [[i8; 2]; 2]>(self, 2, 32)
+    }
+
+    fn marks_mut(self) -> Seal<'a, ArchivedVec<[ArchivedU16; 2]>>
+        requires come_to { IsSealOf no_definition (one ⟦<ArchivedCrop as Portable>⟧.shape) self }
+        ensures { SealsPart no_definition (one ⟦<ArchivedCrop as Portable>⟧.shape) no_definition
+            ⟦<ArchivedVec<[ArchivedU16; 2]> as ArchivePointee>⟧.pointee (self.entry.pos + 36) 0
+            self.entry result }
+    {
+        sealed_part_in_record::<ArchivedCrop, ArchivedVec<[ArchivedU16; 2]>>(self, 3, 36)
     }
 }

@@ -58,8 +58,7 @@ use crate::event::ArchivedEvent;
 use archive_core::boxed::ArchivedBox;
 use archive_core::error::Error;
 use archive_core::fields::{
-    copy_2, part_in_record, resolve_record_2, resolve_record_4, serialize_record_2,
-    serialize_record_4,
+    copy_2, part_in_record, resolve_record_4, serialize_record_2, serialize_record_4,
 };
 use archive_core::option::ArchivedOption;
 use archive_core::place::Place;
@@ -227,14 +226,9 @@ impl Archive for Spot {
         ensures { ResolvesAs ⟦<Self::Archived as Portable>⟧ place
             (⟦<Self as Archive>⟧.flat self.now resolver) result }
     {
-        let Place { bytes, pos, .. } = place;
-        let SpotResolver { kept } = resolver;
-        resolve_record_2::<u16, i16, ArchivedSpot>(
-            &self.right,
-            &self.up,
-            kept,
-            Place::new(pos, bytes),
-        )
+        let Place { bytes, .. } = place;
+        self.copy_one(bytes);
+        Ok(())
     }
 
     #[inline(always)]
@@ -557,14 +551,9 @@ impl Archive for Line {
         ensures { ResolvesAs ⟦<Self::Archived as Portable>⟧ place
             (⟦<Self as Archive>⟧.flat self.now resolver) result }
     {
-        let Place { bytes, pos, .. } = place;
-        let LineResolver { kept } = resolver;
-        resolve_record_2::<Spot, Spot, ArchivedLine>(
-            &self.from,
-            &self.to,
-            kept,
-            Place::new(pos, bytes),
-        )
+        let Place { bytes, .. } = place;
+        self.copy_one(bytes);
+        Ok(())
     }
 
     #[inline(always)]

@@ -41,8 +41,8 @@ ghost use Rattle.std.specs.Prelude.{None, Some, [], codes, length, refl, true, �
 
 use archive_core::error::Error;
 use archive_core::fields::{
-    copy_2, known_tag, part_in_case, part_in_record, read_case, resolve_case_1, resolve_record_2,
-    serialize_case_1, serialize_record_2, tag_in,
+    copy_2, known_tag, part_in_case, part_in_record, read_case, resolve_case_1, serialize_case_1,
+    serialize_record_2, tag_in,
 };
 use archive_core::place::Place;
 use archive_core::primitive::ArchivedU16;
@@ -598,14 +598,9 @@ impl Archive for Steps {
         ensures { ResolvesAs ⟦<Self::Archived as Portable>⟧ place
             (⟦<Self as Archive>⟧.flat self.now resolver) result }
     {
-        let Place { bytes, pos, .. } = place;
-        let StepsResolver { kept } = resolver;
-        resolve_record_2::<u16, u16, ArchivedSteps>(
-            &self.first,
-            &self.second,
-            kept,
-            Place::new(pos, bytes),
-        )
+        let Place { bytes, .. } = place;
+        self.copy_one(bytes);
+        Ok(())
     }
 
     #[inline(always)]

@@ -28,7 +28,7 @@ ghost use Rattle.std.proofs.Common.{inl, inr, lit≤};
 ghost use Rattle.std.specs.Prelude.{Some, [], length, refl, true, ◌++◌, ◌+◌, ◌≡◌};
 
 use archive_core::error::Error;
-use archive_core::fields::{copy_1, part_in_record, resolve_record_1, serialize_record_1};
+use archive_core::fields::{copy_1, part_in_record, serialize_record_1};
 use archive_core::place::Place;
 use archive_core::primitive::ArchivedU32;
 use archive_core::record::deserialize_record;
@@ -180,9 +180,9 @@ impl Archive for Metres {
         ensures { ResolvesAs ⟦<Self::Archived as Portable>⟧ place
             (⟦<Self as Archive>⟧.flat self.now resolver) result }
     {
-        let Place { bytes, pos, .. } = place;
-        let MetresResolver { kept } = resolver;
-        resolve_record_1::<u32, ArchivedMetres>(&self.number, kept, Place::new(pos, bytes))
+        let Place { bytes, .. } = place;
+        self.copy_one(bytes);
+        Ok(())
     }
 
     #[inline(always)]

@@ -57,7 +57,6 @@ ghost use Rattle.archive_core.specs.Definitions.{ExplainsConflict, Extended, bot
 ghost use Rattle.archive_core.specs.Expressed.{ExpressesParts, ExpressesVariants};
 ghost use Rattle.archive_core.specs.Expressions.{table_of};
 ghost use Rattle.archive_core.specs.Fields.{field_in};
-ghost use Rattle.archive_core.specs.Held.{InnerListed, ListingRefused};
 ghost use Rattle.archive_core.specs.Keyed.{nothing_keyed, number_keyed, part_keyed, record_keyed};
 ghost use Rattle.archive_core.specs.LeafLayout.{no_definition_reached};
 ghost use Rattle.archive_core.specs.PartsPlanned.{no_part_planned, part_planned};
@@ -81,7 +80,7 @@ ghost use Rattle.std.proofs.Common.{inl, inr, lit≤};
 ghost use Rattle.std.specs.Prelude.{IfErr, IfOk, None, OnOk, Some, [], length, refl, true, ℕ, ◌++◌, ◌+◌, ◌≡◌, ◌≤◌};
 
 use archive_core::error::Error;
-use archive_core::fields::{copy_1, part_in_record, resolve_record_1, serialize_record_1};
+use archive_core::fields::{copy_1, part_in_record, serialize_record_1};
 use archive_core::option::ArchivedOption;
 use archive_core::place::Place;
 use archive_core::primitive::ArchivedI64;
@@ -90,7 +89,7 @@ use archive_core::recursive::{
     VecAt, before_vec, define_choice, define_record, expression_of, first_expression,
     first_variant, handed_on, named_expression, no_expressions, no_variants, part_of_record,
     part_of_variant, read_part, resolve_named_case_0, resolve_named_case_1, resolve_named_case_2,
-    resolve_named_record_2, seal_of_field, seal_of_payload, serialize_inner_slice, serialize_part,
+    resolve_named_record_2, seal_of_field, seal_of_payload, serialize_part, serialize_run,
     tag_of_choice, tag_of_view, vec_expression, view_of_field, view_of_payload,
 };
 use archive_core::seal::{Seal, sealed_part_in_record};
@@ -107,7 +106,7 @@ use archive_core::traits::{
 use archive_core::validation::ArchiveContext;
 use archive_core::vec::{ArchivedVec, VecResolver};
 use archive_core::view::{RawView, Ref};
-use std::alloc::{AllocError, Allocator, Global};
+use std::alloc::{AllocError, Global};
 
 /// An archived `Json`: 16 bytes at a multiple of 8. It is validated by its schema.
 pub struct ArchivedJson;
@@ -350,26 +349,6 @@ impl Archive for Json {
     }
 }
 
-// Writes the region of elements, by a call where there are some, whose result has its room only while it lasts.
-#[inline(always)]
-fn serialize_run_of_json<S: Writer + ResolverAlloc, T: Archive, B: Allocator + Drop>(
-    values: &[T],
-    resolvers: Vec<T::Resolver, B>,
-    serializer: &mut S,
-) -> Result<VecResolver, Error>
-    requires same_values { EachBelongs T.belongs values.now resolvers.items }
-    ensures listed { IfOk result (InnerListed T.Archive T.Archived.Portable values.now
-        resolvers.items S.Keys serializer) }
-    ensures goes_on { GoesOn (S.state serializer.old) (S.state serializer.new) }
-    ensures refused { IfErr result (ListingRefused T.Archive T.Archived.Portable values.now
-        resolvers.items S.Keys serializer) }
-{
-    if values.is_empty() {
-        return serialize_inner_slice(values, resolvers, serializer);
-    }
-    serialize_inner_slice(values, resolvers, serializer)
-}
-
 // Writes what each of the values owns, in order.
 #[cycle(serialize_json)]
 fn serialize_each_json<S: Writer + Keys + ResolverAlloc>(
@@ -425,7 +404,7 @@ fn serialize_vec_json<S: Writer + Keys + ResolverAlloc>(
         Ok(kept) => kept,
         Err(error) => return Err(error),
     };
-    match serialize_run_of_json(items, kept, serializer) {
+    match serialize_run(items, kept, serializer) {
         Ok(at) => Ok(at),
         Err(error) => Err(error),
     }
@@ -486,7 +465,7 @@ fn serialize_vec_member_type<S: Writer + Keys + ResolverAlloc>(
         Ok(kept) => kept,
         Err(error) => return Err(error),
     };
-    match serialize_run_of_json(items, kept, serializer) {
+    match serialize_run(items, kept, serializer) {
         Ok(at) => Ok(at),
         Err(error) => Err(error),
     }
@@ -1551,9 +1530,9 @@ impl Archive for Number {
         ensures { ResolvesAs ⟦<Self::Archived as Portable>⟧ place
             (⟦<Self as Archive>⟧.flat self.now resolver) result }
     {
-        let Place { bytes, pos, .. } = place;
-        let NumberResolver { kept } = resolver;
-        resolve_record_1::<i64, ArchivedNumber>(&self.thousandths, kept, Place::new(pos, bytes))
+        let Place { bytes, .. } = place;
+        self.copy_one(bytes);
+        Ok(())
     }
 
     #[inline(always)]

@@ -19,7 +19,6 @@ ghost use Rattle.archive_core.specs.CallOutcomes.{ResolvesAs};
 ghost use Rattle.archive_core.specs.Causes.{IsRefused};
 ghost use Rattle.archive_core.specs.Definitions.{both, no_definition};
 ghost use Rattle.archive_core.specs.Expressed.{ExpressesParts, ExpressesVariants};
-ghost use Rattle.archive_core.specs.Held.{InnerListed, ListingRefused};
 ghost use Rattle.archive_core.specs.Payloads.{payload_in};
 ghost use Rattle.archive_core.specs.PlannedOwners.{one_planned};
 ghost use Rattle.archive_core.specs.Plans.{Serialized};
@@ -46,8 +45,8 @@ use archive_core::primitive::ArchivedU16;
 use archive_core::recursive::{
     VecAt, before_vec, define_choice, expression_of, first_expression, first_variant, handed_on,
     named_expression, no_expressions, no_variants, part_of_record, part_of_variant, read_part,
-    record_expression, resolve_named_case_1, seal_of_payload, serialize_inner_slice,
-    serialize_part, tag_of_choice, tag_of_view, vec_expression, view_of_payload,
+    record_expression, resolve_named_case_1, seal_of_payload, serialize_part, serialize_run,
+    tag_of_choice, tag_of_view, vec_expression, view_of_payload,
 };
 use archive_core::seal::Seal;
 use archive_core::self_check::BySchema;
@@ -60,7 +59,7 @@ use archive_core::traits::{
 };
 use archive_core::vec::{ArchivedVec, VecResolver};
 use archive_core::view::{RawView, Ref};
-use std::alloc::{AllocError, Allocator, Global};
+use std::alloc::{AllocError, Global};
 
 /// An archived `Note`: 12 bytes at a multiple of 4. It is validated by its schema.
 pub struct ArchivedNote;
@@ -345,26 +344,6 @@ impl Archive for Note {
     }
 }
 
-// Writes the region of elements, by a call where there are some, whose result has its room only while it lasts.
-#[inline(always)]
-fn serialize_run_of_note<S: Writer + ResolverAlloc, T: Archive, B: Allocator + Drop>(
-    values: &[T],
-    resolvers: Vec<T::Resolver, B>,
-    serializer: &mut S,
-) -> Result<VecResolver, Error>
-    requires same_values { EachBelongs T.belongs values.now resolvers.items }
-    ensures listed { IfOk result (InnerListed T.Archive T.Archived.Portable values.now
-        resolvers.items S.Keys serializer) }
-    ensures goes_on { GoesOn (S.state serializer.old) (S.state serializer.new) }
-    ensures refused { IfErr result (ListingRefused T.Archive T.Archived.Portable values.now
-        resolvers.items S.Keys serializer) }
-{
-    if values.is_empty() {
-        return serialize_inner_slice(values, resolvers, serializer);
-    }
-    serialize_inner_slice(values, resolvers, serializer)
-}
-
 // Writes what each of the values owns, in order.
 #[cycle(serialize_note)]
 fn serialize_each_tuple3_string_note_option_string<S: Writer + Keys + ResolverAlloc>(
@@ -435,7 +414,7 @@ fn serialize_vec_tuple3_string_note_option_string<S: Writer + Keys + ResolverAll
         Ok(kept) => kept,
         Err(error) => return Err(error),
     };
-    match serialize_run_of_note(items, kept, serializer) {
+    match serialize_run(items, kept, serializer) {
         Ok(at) => Ok(at),
         Err(error) => Err(error),
     }

@@ -49,10 +49,10 @@ rule_has_keys t = ap rule_keys (sym (roll-out-Rule t)) ∙ rule_has_keys_roll (o
 
 -- what is read in its place
 abbrev pub rule_flat : Rule-Source → RuleResolver → Value
-rule_flat t r = product (value (box (hole (to_pointee r.kept.0 text (length (string_bytes (out-Rule t).words.text))))) (value (list (each_flat (λ y s. (number (pos y))) (out-Rule t).version r.kept.1.0.items)) (value (box (hole (to_pointee r.kept.1.1.0 (run (leaf (number_kind unsigned w16))) (length (out-Rule t).pages.items.items)))) (value (number (pos (out-Rule t).lines)) (value (box (hole (to_pointee r.kept.1.1.1.1.0 (run rule_shape) (length (out-Rule t).parts.items.items)))) no_value)))))
+rule_flat t r = product (value (box (hole (to_pointee r.kept.0 text (length (string_bytes (out-Rule t).words.text))))) (value (list (each_flat (λ y s. (number (pos y))) (out-Rule t).version r.kept.1.0.kept.items)) (value (box (hole (to_pointee r.kept.1.1.0 (run (leaf (number_kind unsigned w16))) (length (out-Rule t).pages.items.items)))) (value (number (pos (out-Rule t).lines)) (value (box (hole (to_pointee r.kept.1.1.1.1.0 (run rule_shape) (length (out-Rule t).parts.items.items)))) no_value)))))
 
 abbrev pub rule_belongs : Rule-Source → RuleResolver → Type 0
-rule_belongs t r = ((length (string_bytes (out-Rule t).words.text) ≤ 4294967295) × ((EachBelongs (λ y s. ⊤) (out-Rule t).version r.kept.1.0.items) × ((length (out-Rule t).pages.items.items ≤ 4294967295) × (((out-Rule t).lines < 2 ^ 32) × ((length (out-Rule t).parts.items.items ≤ 4294967295) × Unit {0})))))
+rule_belongs t r = ((length (string_bytes (out-Rule t).words.text) ≤ 4294967295) × ((EachBelongs (λ y s. ⊤) (out-Rule t).version r.kept.1.0.kept.items) × ((length (out-Rule t).pages.items.items ≤ 4294967295) × (((out-Rule t).lines < 2 ^ 32) × ((length (out-Rule t).parts.items.items ≤ 4294967295) × Unit {0})))))
 
 rule_keyed_layer : (y : Rule-F ((t : Rule-Source) × IsKeyed (rule_keys t) (rule_meaning t))) → IsKeyed (rule_keys (roll-Rule (map-Rule ((t : Rule-Source) × IsKeyed (rule_keys t) (rule_meaning t)) Rule-Source (λ e. e.0) y))) (rule_meaning (roll-Rule (map-Rule ((t : Rule-Source) × IsKeyed (rule_keys t) (rule_meaning t)) Rule-Source (λ e. e.0) y)))
 rule_keyed_layer y = keyed_as (rule_has_keys_roll _) (rule_means_roll _) (record_keyed (part_keyed (box_keyed [] (text_value (string_bytes y.words.text)) (text_keyed (string_bytes y.words.text))) (part_keyed (array_keyed 4 (λ y. []) (λ y. (number (pos y))) (λ y. (number_keyed _)) y.version) (part_keyed (box_keyed _ _ (each_keyed (λ y. []) (λ y. (number (pos y))) (λ y. (number_keyed _)) y.pages.items.items)) (part_keyed (number_keyed _) (part_keyed (box_keyed _ _ (held_keyed rule_keys rule_meaning y.parts.items.items)) nothing_keyed))))))

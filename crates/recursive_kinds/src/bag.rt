@@ -34,7 +34,6 @@ ghost use Rattle.archive_core.specs.Seen.{IsPartOf, ReadsPart, RefusesPart, Show
 ghost use Rattle.archive_core.specs.SelfCheck.Laws.{by_schema};
 ghost use Rattle.archive_core.specs.Shape.{boxed, one, part, parts, run, shared};
 ghost use Rattle.archive_core.specs.SharedSources.{rc_flat, rc_flavor, rc_keys};
-ghost use Rattle.archive_core.specs.SourceOutcomes.{BoxesInner};
 ghost use Rattle.archive_core.specs.Value.{list, shared_value, value};
 ghost use Rattle.archive_core.specs.Viewed.{Viewed};
 ghost use Rattle.archive_core.specs.Writing.{ZeroedPlace};
@@ -349,19 +348,6 @@ impl Archive for Bag {
     }
 }
 
-// Writes the region of a value by a call, whose result has its room only while it lasts.
-#[inline(always)]
-fn serialize_region_of_bag<S: Writer + ResolverAlloc, T: Archive>(
-    value: &T,
-    resolver: T::Resolver,
-    serializer: &mut S,
-) -> Result<BoxResolver, Error>
-    requires same_value { T.belongs value.now resolver }
-    ensures { BoxesInner T.Archive T.Archived.Portable value.now resolver S.Keys serializer result }
-{
-    serialize_inner(value, resolver, serializer)
-}
-
 // Writes what an option owns.
 #[cycle(serialize_bag)]
 #[inline(always)]
@@ -388,7 +374,7 @@ fn serialize_option_box_bag<S: Sharing + Writer + ResolverAlloc>(
                 Ok(kept) => kept,
                 Err(error) => return Err(handed_on(error)),
             };
-            match serialize_region_of_bag(inner, kept, serializer) {
+            match serialize_inner(inner, kept, serializer) {
                 Ok(at) => Ok(Some(at)),
                 Err(error) => Err(error),
             }

@@ -19,7 +19,6 @@ ghost use Rattle.archive_core.specs.Choices.{option_shape};
 ghost use Rattle.archive_core.specs.Definitions.{no_definition};
 ghost use Rattle.archive_core.specs.Expressed.{ExpressesParts};
 ghost use Rattle.archive_core.specs.Fields.{field_in};
-ghost use Rattle.archive_core.specs.Held.{InnerListed, ListingRefused};
 ghost use Rattle.archive_core.specs.PlannedOwners.{one_planned};
 ghost use Rattle.archive_core.specs.Plans.{Serialized};
 ghost use Rattle.archive_core.specs.ReadBack.{Read, ReadsAs};
@@ -28,7 +27,6 @@ ghost use Rattle.archive_core.specs.SealOutcomes.{IsSealOf, SealsPart};
 ghost use Rattle.archive_core.specs.Seen.{IsPartOf, RefusesPart, ShowsValueOf};
 ghost use Rattle.archive_core.specs.SelfCheck.Laws.{by_schema};
 ghost use Rattle.archive_core.specs.Shape.{boxed, one, part, parts, vec};
-ghost use Rattle.archive_core.specs.SourceOutcomes.{BoxesInner};
 ghost use Rattle.archive_core.specs.Value.{value};
 ghost use Rattle.archive_core.specs.Writing.{ZeroedPlace};
 ghost use Rattle.archive_core.specs.Written.{GoesOn};
@@ -36,7 +34,7 @@ ghost use Rattle.recursive_kinds.specs.BushShape.{bush_definitions, bush_has_lay
 ghost use Rattle.std.proofs.Common.{lit≤};
 ghost use Rattle.std.specs.Prelude.{IfErr, IfOk, None, Some, length, refl, ◌+◌, ◌≡◌, ◌≤◌};
 
-use archive_core::boxed::{ArchivedBox, BoxResolver};
+use archive_core::boxed::ArchivedBox;
 use archive_core::error::Error;
 use archive_core::option::ArchivedOption;
 use archive_core::place::Place;
@@ -45,7 +43,7 @@ use archive_core::recursive::{
     VecAt, before_box, before_vec, boxed_expression, define_record, expression_of,
     first_expression, handed_on, named_expression, no_expressions, option_expression,
     part_of_record, read_part, resolve_named_record_3, seal_of_field, serialize_inner,
-    serialize_inner_slice, serialize_part, vec_expression, view_of_field,
+    serialize_part, serialize_run, vec_expression, view_of_field,
 };
 use archive_core::seal::Seal;
 use archive_core::self_check::BySchema;
@@ -57,7 +55,7 @@ use archive_core::traits::{
 };
 use archive_core::vec::{ArchivedVec, VecResolver};
 use archive_core::view::{RawView, Ref};
-use std::alloc::{AllocError, Allocator, Global};
+use std::alloc::{AllocError, Global};
 
 /// An archived `Bush`: 20 bytes at a multiple of 4. It is validated by its schema.
 pub struct ArchivedBush;
@@ -216,39 +214,6 @@ impl Archive for Bush {
     }
 }
 
-// Writes the region of elements, by a call where there are some, whose result has its room only while it lasts.
-#[inline(always)]
-fn serialize_run_of_bush<S: Writer + ResolverAlloc, T: Archive, B: Allocator + Drop>(
-    values: &[T],
-    resolvers: Vec<T::Resolver, B>,
-    serializer: &mut S,
-) -> Result<VecResolver, Error>
-    requires same_values { EachBelongs T.belongs values.now resolvers.items }
-    ensures listed { IfOk result (InnerListed T.Archive T.Archived.Portable values.now
-        resolvers.items S.Keys serializer) }
-    ensures goes_on { GoesOn (S.state serializer.old) (S.state serializer.new) }
-    ensures refused { IfErr result (ListingRefused T.Archive T.Archived.Portable values.now
-        resolvers.items S.Keys serializer) }
-{
-    if values.is_empty() {
-        return serialize_inner_slice(values, resolvers, serializer);
-    }
-    serialize_inner_slice(values, resolvers, serializer)
-}
-
-// Writes the region of a value by a call, whose result has its room only while it lasts.
-#[inline(always)]
-fn serialize_region_of_bush<S: Writer + ResolverAlloc, T: Archive>(
-    value: &T,
-    resolver: T::Resolver,
-    serializer: &mut S,
-) -> Result<BoxResolver, Error>
-    requires same_value { T.belongs value.now resolver }
-    ensures { BoxesInner T.Archive T.Archived.Portable value.now resolver S.Keys serializer result }
-{
-    serialize_inner(value, resolver, serializer)
-}
-
 // Writes what each of the values owns, in order.
 #[cycle(serialize_bush)]
 fn serialize_each_option_box_bush<S: Writer + Keys + ResolverAlloc>(
@@ -283,7 +248,7 @@ fn serialize_each_option_box_bush<S: Writer + Keys + ResolverAlloc>(
                     Ok(kept) => kept,
                     Err(error) => return Err(handed_on(error)),
                 };
-                let resolver = match serialize_region_of_bush(inner, kept, serializer) {
+                let resolver = match serialize_inner(inner, kept, serializer) {
                     Ok(resolver) => resolver,
                     Err(error) => return Err(error),
                 };
@@ -321,7 +286,7 @@ fn serialize_vec_option_box_bush<S: Writer + Keys + ResolverAlloc>(
         Ok(kept) => kept,
         Err(error) => return Err(error),
     };
-    match serialize_run_of_bush(items, kept, serializer) {
+    match serialize_run(items, kept, serializer) {
         Ok(at) => Ok(at),
         Err(error) => Err(error),
     }
@@ -354,7 +319,7 @@ fn serialize_each_box_bush<S: Writer + Keys + ResolverAlloc>(
             Ok(kept) => kept,
             Err(error) => return Err(handed_on(error)),
         };
-        let resolver = match serialize_region_of_bush(inner, kept, serializer) {
+        let resolver = match serialize_inner(inner, kept, serializer) {
             Ok(resolver) => resolver,
             Err(error) => return Err(error),
         };
@@ -388,7 +353,7 @@ fn serialize_vec_box_bush<S: Writer + Keys + ResolverAlloc>(
         Ok(kept) => kept,
         Err(error) => return Err(error),
     };
-    match serialize_run_of_bush(items, kept, serializer) {
+    match serialize_run(items, kept, serializer) {
         Ok(at) => Ok(at),
         Err(error) => Err(error),
     }

@@ -19,7 +19,6 @@ ghost use Rattle.archive_core.specs.Definitions.{no_definition};
 ghost use Rattle.archive_core.specs.Error.TheVariants.{OutOfMemory};
 ghost use Rattle.archive_core.specs.Expressed.{ExpressesParts};
 ghost use Rattle.archive_core.specs.Fields.{field_in};
-ghost use Rattle.archive_core.specs.Held.{InnerListed, ListingRefused};
 ghost use Rattle.archive_core.specs.PlannedOwners.{one_planned};
 ghost use Rattle.archive_core.specs.Plans.{Serialized};
 ghost use Rattle.archive_core.specs.ReadBack.{Read, ReadsAs};
@@ -44,8 +43,8 @@ use archive_core::rc::{ArchivedRc, RcFlavor};
 use archive_core::recursive::{
     VecAt, before_vec, begin_reading, begin_shared, define_record, expression_of, finish_reading,
     finish_shared, first_expression, handed_on, named_expression, no_expressions, part_behind,
-    part_of_record, read_part, resolve_named_record_2, seal_of_field, serialize_inner_slice,
-    serialize_part, shared_expression, vec_expression, view_of_field,
+    part_of_record, read_part, resolve_named_record_2, seal_of_field, serialize_part,
+    serialize_run, shared_expression, vec_expression, view_of_field,
 };
 use archive_core::seal::Seal;
 use archive_core::self_check::BySchema;
@@ -58,7 +57,7 @@ use archive_core::traits::{
 };
 use archive_core::vec::{ArchivedVec, VecResolver};
 use archive_core::view::{RawView, Ref};
-use std::alloc::{AllocError, Allocator, Global};
+use std::alloc::{AllocError, Global};
 
 /// An archived `Knot`: 12 bytes at a multiple of 4. It is validated by its schema.
 pub struct ArchivedKnot;
@@ -203,26 +202,6 @@ impl Archive for Knot {
     }
 }
 
-// Writes the region of elements, by a call where there are some, whose result has its room only while it lasts.
-#[inline(always)]
-fn serialize_run_of_knot<S: Writer + ResolverAlloc, T: Archive, B: Allocator + Drop>(
-    values: &[T],
-    resolvers: Vec<T::Resolver, B>,
-    serializer: &mut S,
-) -> Result<VecResolver, Error>
-    requires same_values { EachBelongs T.belongs values.now resolvers.items }
-    ensures listed { IfOk result (InnerListed T.Archive T.Archived.Portable values.now
-        resolvers.items S.Keys serializer) }
-    ensures goes_on { GoesOn (S.state serializer.old) (S.state serializer.new) }
-    ensures refused { IfErr result (ListingRefused T.Archive T.Archived.Portable values.now
-        resolvers.items S.Keys serializer) }
-{
-    if values.is_empty() {
-        return serialize_inner_slice(values, resolvers, serializer);
-    }
-    serialize_inner_slice(values, resolvers, serializer)
-}
-
 // Writes what each of the values owns, in order.
 #[cycle(serialize_knot)]
 fn serialize_each_shared_knot<S: Sharing + Writer + ResolverAlloc>(
@@ -298,7 +277,7 @@ fn serialize_vec_shared_knot<S: Sharing + Writer + ResolverAlloc>(
         Ok(kept) => kept,
         Err(error) => return Err(error),
     };
-    match serialize_run_of_knot(items, kept, serializer) {
+    match serialize_run(items, kept, serializer) {
         Ok(at) => Ok(at),
         Err(error) => Err(error),
     }

@@ -37,7 +37,6 @@ ghost use Rattle.archive_core.specs.SealOutcomes.{IsSealOf, SealsPart, seal_tag}
 ghost use Rattle.archive_core.specs.Seen.{IsPartOf, RefusesPart, ShowsValueOf, part_tag, tag_of};
 ghost use Rattle.archive_core.specs.SelfCheck.Laws.{by_schema};
 ghost use Rattle.archive_core.specs.Shape.{boxed, one, part, parts, variant, vec};
-ghost use Rattle.archive_core.specs.SourceOutcomes.{BoxesInner};
 ghost use Rattle.archive_core.specs.Value.{case, no_value, value};
 ghost use Rattle.archive_core.specs.Writing.{ZeroedPlace};
 ghost use Rattle.archive_core.specs.Written.{GoesOn};
@@ -214,19 +213,6 @@ impl Archive for Dir {
     ) -> Result<Option<usize>, Error> {
         Ok(None)
     }
-}
-
-// Writes the region of a value by a call, whose result has its room only while it lasts.
-#[inline(always)]
-fn serialize_region_of_dir<S: Writer + ResolverAlloc, T: Archive>(
-    value: &T,
-    resolver: T::Resolver,
-    serializer: &mut S,
-) -> Result<BoxResolver, Error>
-    requires same_value { T.belongs value.now resolver }
-    ensures { BoxesInner T.Archive T.Archived.Portable value.now resolver S.Keys serializer result }
-{
-    serialize_inner(value, resolver, serializer)
 }
 
 // Writes what each of the values owns, in order.
@@ -747,7 +733,7 @@ fn serialize_box_dir<S: Writer + Keys + ResolverAlloc>(
         Ok(kept) => kept,
         Err(error) => return Err(handed_on(error)),
     };
-    match serialize_region_of_dir(inner, kept, serializer) {
+    match serialize_inner(inner, kept, serializer) {
         Ok(at) => Ok(at),
         Err(error) => Err(error),
     }

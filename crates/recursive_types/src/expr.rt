@@ -17,7 +17,6 @@ ghost use Rattle.archive_core.specs.CallOutcomes.{ResolvesAs};
 ghost use Rattle.archive_core.specs.Causes.{IsRefused};
 ghost use Rattle.archive_core.specs.Definitions.{no_definition};
 ghost use Rattle.archive_core.specs.Expressed.{ExpressesParts, ExpressesVariants};
-ghost use Rattle.archive_core.specs.Held.{InnerListed, ListingRefused};
 ghost use Rattle.archive_core.specs.Payloads.{payload_in};
 ghost use Rattle.archive_core.specs.PlannedOwners.{one_planned};
 ghost use Rattle.archive_core.specs.Plans.{Serialized};
@@ -27,7 +26,6 @@ ghost use Rattle.archive_core.specs.SealOutcomes.{IsSealOf, SealsPart, seal_tag}
 ghost use Rattle.archive_core.specs.Seen.{IsPartOf, RefusesPart, ShowsValueOf, part_tag, tag_of};
 ghost use Rattle.archive_core.specs.SelfCheck.Laws.{by_schema};
 ghost use Rattle.archive_core.specs.Shape.{boxed, one, part, parts, variant, vec};
-ghost use Rattle.archive_core.specs.SourceOutcomes.{BoxesInner};
 ghost use Rattle.archive_core.specs.Value.{case, no_value, value};
 ghost use Rattle.archive_core.specs.Writing.{ZeroedPlace};
 ghost use Rattle.archive_core.specs.Written.{GoesOn};
@@ -43,8 +41,8 @@ use archive_core::recursive::{
     BoxAt, VecAt, before_box, before_vec, boxed_expression, define_choice, expression_of,
     first_expression, first_variant, handed_on, named_expression, no_expressions, no_variants,
     part_of_variant, read_part, resolve_named_case_1, resolve_named_case_2, seal_of_payload,
-    serialize_inner, serialize_inner_slice, serialize_part, tag_of_choice, tag_of_view,
-    vec_expression, view_of_payload,
+    serialize_inner, serialize_part, serialize_run, tag_of_choice, tag_of_view, vec_expression,
+    view_of_payload,
 };
 use archive_core::seal::Seal;
 use archive_core::self_check::BySchema;
@@ -57,7 +55,7 @@ use archive_core::traits::{
 };
 use archive_core::vec::{ArchivedVec, VecResolver};
 use archive_core::view::{RawView, Ref};
-use std::alloc::{AllocError, Allocator, Global};
+use std::alloc::{AllocError, Global};
 
 /// An archived `Expr`: 24 bytes at a multiple of 8. It is validated by its schema.
 pub struct ArchivedExpr;
@@ -269,39 +267,6 @@ impl Archive for Expr {
     }
 }
 
-// Writes the region of elements, by a call where there are some, whose result has its room only while it lasts.
-#[inline(always)]
-fn serialize_run_of_expr<S: Writer + ResolverAlloc, T: Archive, B: Allocator + Drop>(
-    values: &[T],
-    resolvers: Vec<T::Resolver, B>,
-    serializer: &mut S,
-) -> Result<VecResolver, Error>
-    requires same_values { EachBelongs T.belongs values.now resolvers.items }
-    ensures listed { IfOk result (InnerListed T.Archive T.Archived.Portable values.now
-        resolvers.items S.Keys serializer) }
-    ensures goes_on { GoesOn (S.state serializer.old) (S.state serializer.new) }
-    ensures refused { IfErr result (ListingRefused T.Archive T.Archived.Portable values.now
-        resolvers.items S.Keys serializer) }
-{
-    if values.is_empty() {
-        return serialize_inner_slice(values, resolvers, serializer);
-    }
-    serialize_inner_slice(values, resolvers, serializer)
-}
-
-// Writes the region of a value by a call, whose result has its room only while it lasts.
-#[inline(always)]
-fn serialize_region_of_expr<S: Writer + ResolverAlloc, T: Archive>(
-    value: &T,
-    resolver: T::Resolver,
-    serializer: &mut S,
-) -> Result<BoxResolver, Error>
-    requires same_value { T.belongs value.now resolver }
-    ensures { BoxesInner T.Archive T.Archived.Portable value.now resolver S.Keys serializer result }
-{
-    serialize_inner(value, resolver, serializer)
-}
-
 // Writes what a box owns.
 #[cycle(serialize_expr)]
 fn serialize_box_expr<S: Writer + Keys + ResolverAlloc>(
@@ -323,7 +288,7 @@ fn serialize_box_expr<S: Writer + Keys + ResolverAlloc>(
         Ok(kept) => kept,
         Err(error) => return Err(handed_on(error)),
     };
-    match serialize_region_of_expr(inner, kept, serializer) {
+    match serialize_inner(inner, kept, serializer) {
         Ok(at) => Ok(at),
         Err(error) => Err(error),
     }
@@ -384,7 +349,7 @@ fn serialize_vec_expr<S: Writer + Keys + ResolverAlloc>(
         Ok(kept) => kept,
         Err(error) => return Err(error),
     };
-    match serialize_run_of_expr(items, kept, serializer) {
+    match serialize_run(items, kept, serializer) {
         Ok(at) => Ok(at),
         Err(error) => Err(error),
     }

@@ -27,7 +27,6 @@ ghost use Rattle.archive_core.specs.SealOutcomes.{IsSealOf, SealsPart};
 ghost use Rattle.archive_core.specs.Seen.{IsPartOf, RefusesPart, ShowsValueOf};
 ghost use Rattle.archive_core.specs.SelfCheck.Laws.{by_schema};
 ghost use Rattle.archive_core.specs.Shape.{boxed, one, part, parts};
-ghost use Rattle.archive_core.specs.SourceOutcomes.{BoxesInner};
 ghost use Rattle.archive_core.specs.Value.{value};
 ghost use Rattle.archive_core.specs.Writing.{ZeroedPlace};
 ghost use Rattle.archive_core.specs.Written.{GoesOn};
@@ -213,19 +212,6 @@ impl Archive for Search {
     }
 }
 
-// Writes the region of a value by a call, whose result has its room only while it lasts.
-#[inline(always)]
-fn serialize_region_of_search<S: Writer + ResolverAlloc, T: Archive>(
-    value: &T,
-    resolver: T::Resolver,
-    serializer: &mut S,
-) -> Result<BoxResolver, Error>
-    requires same_value { T.belongs value.now resolver }
-    ensures { BoxesInner T.Archive T.Archived.Portable value.now resolver S.Keys serializer result }
-{
-    serialize_inner(value, resolver, serializer)
-}
-
 // Writes what an option owns.
 #[cycle(serialize_search)]
 #[inline(always)]
@@ -252,7 +238,7 @@ fn serialize_option_box_search<S: Writer + Keys + ResolverAlloc>(
                 Ok(kept) => kept,
                 Err(error) => return Err(handed_on(error)),
             };
-            match serialize_region_of_search(inner, kept, serializer) {
+            match serialize_inner(inner, kept, serializer) {
                 Ok(at) => Ok(Some(at)),
                 Err(error) => Err(error),
             }

@@ -18,7 +18,6 @@ ghost use Rattle.archive_core.specs.Causes.{IsRefused};
 ghost use Rattle.archive_core.specs.Definitions.{ExplainsConflict, Extended, defines};
 ghost use Rattle.archive_core.specs.Expressed.{ExpressesParts, ExpressesVariants};
 ghost use Rattle.archive_core.specs.Expressions.{table_of};
-ghost use Rattle.archive_core.specs.Held.{InnerListed, ListingRefused};
 ghost use Rattle.archive_core.specs.Payloads.{payload_in};
 ghost use Rattle.archive_core.specs.PlannedOwners.{one_planned};
 ghost use Rattle.archive_core.specs.Plans.{Serialized};
@@ -42,8 +41,8 @@ use archive_core::place::Place;
 use archive_core::recursive::{
     VecAt, before_vec, define_choice, expression_of, first_expression, first_variant, handed_on,
     named_expression, no_expressions, no_variants, part_of_variant, read_part,
-    resolve_named_case_1, resolve_named_case_2, seal_of_payload, serialize_inner_slice,
-    serialize_part, tag_of_choice, tag_of_view, vec_expression, view_of_payload,
+    resolve_named_case_1, resolve_named_case_2, seal_of_payload, serialize_part, serialize_run,
+    tag_of_choice, tag_of_view, vec_expression, view_of_payload,
 };
 use archive_core::seal::Seal;
 use archive_core::self_check::BySchema;
@@ -55,7 +54,7 @@ use archive_core::traits::{
 };
 use archive_core::vec::{ArchivedVec, VecResolver};
 use archive_core::view::{RawView, Ref};
-use std::alloc::{AllocError, Allocator, Global};
+use std::alloc::{AllocError, Global};
 
 /// An archived `Stmt`: 64 bytes at a multiple of 8. It is validated by its schema.
 pub struct ArchivedStmt;
@@ -273,26 +272,6 @@ impl Archive for Stmt {
     }
 }
 
-// Writes the region of elements, by a call where there are some, whose result has its room only while it lasts.
-#[inline(always)]
-fn serialize_run_of_stmt<S: Writer + ResolverAlloc, T: Archive, B: Allocator + Drop>(
-    values: &[T],
-    resolvers: Vec<T::Resolver, B>,
-    serializer: &mut S,
-) -> Result<VecResolver, Error>
-    requires same_values { EachBelongs T.belongs values.now resolvers.items }
-    ensures listed { IfOk result (InnerListed T.Archive T.Archived.Portable values.now
-        resolvers.items S.Keys serializer) }
-    ensures goes_on { GoesOn (S.state serializer.old) (S.state serializer.new) }
-    ensures refused { IfErr result (ListingRefused T.Archive T.Archived.Portable values.now
-        resolvers.items S.Keys serializer) }
-{
-    if values.is_empty() {
-        return serialize_inner_slice(values, resolvers, serializer);
-    }
-    serialize_inner_slice(values, resolvers, serializer)
-}
-
 // Writes what each of the values owns, in order.
 #[cycle(serialize_stmt)]
 fn serialize_each_stmt<S: Writer + Keys + ResolverAlloc>(
@@ -348,7 +327,7 @@ fn serialize_vec_stmt<S: Writer + Keys + ResolverAlloc>(
         Ok(kept) => kept,
         Err(error) => return Err(error),
     };
-    match serialize_run_of_stmt(items, kept, serializer) {
+    match serialize_run(items, kept, serializer) {
         Ok(at) => Ok(at),
         Err(error) => Err(error),
     }

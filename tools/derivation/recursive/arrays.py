@@ -63,7 +63,7 @@ def hollow_arrays(it, kept, hollow_source):
         at = f"{item.name}At"
         of = it.formats.archived((item.args[0] if item.name == "Option" else item).args[0])
         body = f"""        let hollows: [{at}<{of}>; {type.length}] = [{', '.join([f'{at}::new()'] * int(type.length))}];
-        hollows.resolve(resolver, Place::new(pos, bytes))
+        hollows.resolve(ArrayResolver {{ kept: resolver }}, Place::new(pos, bytes))
 """
         text = hollow_source(
             array_at(it, type), it.formats.archived(type), kept(it, type), f"λ _ r. {it.terms.flat(type, '_', 'r')[1:-1]}", it.formats.layout(type)[0], body,
@@ -71,6 +71,7 @@ def hollow_arrays(it, kept, hollow_source):
         )
         out.append(f"// An array whose values were written before. It can be resolved, and nothing else: it means nothing.\n#[derive(Drop)]\nstruct {array_at(it, type)};\n\n{text}")
         it.formats.use("archive_core::recursive", at)
+        it.formats.use("archive_core::core_impls", "ArrayResolver")
         it.formats.ghost("Arrays", "named_twice", "twice_keyed", "no_two", "array_meaning", "array_keys")
         it.formats.ghost("Hollow", "option_at")
         it.formats.ghost("Shape", "array")

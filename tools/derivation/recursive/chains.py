@@ -129,7 +129,7 @@ def variants_of(it, said, of):
         if opens(case):
             lines += f"    /// Of `{case.name}`.\n"
             lines += statement(4, "", Group(f"{case.name}(", of(case), ")"), ",") if of(case) else f"    {case.name},\n"
-    return f"/// {said}\n#[derive(Drop)]\npub enum {{0}} {{{{\n{lines}}}}}\n"
+    return f"/// {said}\n#[derive(Drop)]\n{it.seen}enum {{0}} {{{{\n{lines}}}}}\n"
 
 
 def kept(it):

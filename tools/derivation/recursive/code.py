@@ -74,7 +74,7 @@ def bring(it):
     f.use("archive_core::vec", "VecResolver")
     f.use("archive_core::recursive", "BoxAt", "OptionAt", "VecAt", "before_box", "before_vec", "part_of_record", "part_of_variant", "read_part")
     f.use("archive_core::recursive", "begin_reading", "begin_shared", "finish_reading", "finish_shared", "part_behind")
-    f.use("archive_core::recursive", "handed_on", "serialize_inner", "serialize_inner_slice", "serialize_part", "tag_of_choice")
+    f.use("archive_core::recursive", "handed_on", "serialize_inner", "serialize_inner_slice", "serialize_part", "serialize_run", "tag_of_choice")
     f.use("archive_core::traits", "PortableParts", "PortableVariants", "expr_of_choice", "expr_of_record")
     f.use("archive_core::traits", "Archive", "ArchivePointee", "ArchiveUnsized", "Choice", "Deserialize", "Entries", "Keys", "Portable", "Record", "Serialize", "SerializeUnsized")
     f.use("archive_core::view", "RawView", "Ref")

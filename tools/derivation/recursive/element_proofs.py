@@ -2,7 +2,7 @@
 
 import re
 
-from . import rooms, slices, weak, writers
+from . import slices, weak, writers
 from . import write_proofs
 from . import proofs
 
@@ -27,7 +27,7 @@ def option_kept(it, item, answers, each, steps, kept, at):
     nothing = f"{head('None', 'None')} (rw w.in-None.is ({empty})) {belongs.format('None')} (goes_nowhere _)"
     # in this arm the steps are those of `w`
     serialized, goes = (re.sub(r"c\.(in-Some|deref-inner|serialize_|in-Ok)", r"w.\1", text) for text in (steps.serialized, steps.goes))
-    ok = "in-Ok" if it.terms.is_nullable(item) else f"in-Ok-{rooms.inner_of(it)}"
+    ok = "in-Ok" if it.terms.is_nullable(item) else "in-Ok-serialize_inner"
     some = f"{head(f'(Some w.{ok}.resolver)', 'Some')} {serialized} {belongs.format('Some')} {goes}"
     arms = [("in-None+in_ok-map_err-in-None", nothing), (f"in-Some+in-Ok{'' if ok == 'in-Ok' else f'+{ok}'}+in_ok-map_err-in-Some", some)]
     cases = " | ".join(f"{each}-{arm} w ↦ {met} ({step})" for arm, step in arms)
@@ -86,9 +86,9 @@ class Element:
             self.resolver = "c.in-Ok.resolver"
         self.refusals = [("in-Err", first, "c.in-Err.ensures.refused")]
         if not it.terms.is_member(box):
-            self.goes, self.belongs = f"(goes_both _ _ _ {first} c.{rooms.inner_of(it)}.ensures.goes_on)", "tt"
+            self.goes, self.belongs = f"(goes_both _ _ _ {first} c.serialize_inner.ensures.goes_on)", "tt"
             # antt doesn't find it by what is read in the box's place
-            self.resolver = f"c.in-Ok-{rooms.inner_of(it)}.resolver"
+            self.resolver = f"c.in-Ok-serialize_inner.resolver"
             whole, is_, around = "c.value-item.result", "", "{}"
             if it.terms.is_option(item):
                 case = f"{D} {D} (λ s k. k) _ _ 1 {it.terms.shape(box)} refl _ _"
@@ -96,9 +96,9 @@ class Element:
             same = f"let same : c.deref-inner.result.now ≡ {whole}.value = grind (arith, common_steps) in rw ({is_}← same)"
             since = f"since _ {first} {self.serialized}"
             owned = f"(box_refused {D} (one {X}) 0 _ _ _ _ _ (one_owned {D} {X} _ _ _ _ _ c.in-Err.ensures.refused))"
-            inner_refused = f"(c.in-Err-{rooms.inner_of(it)}.ensures.refused.{since})"
-            self.refusals = [("in-Err", first, f"({same} {around.format(owned)})"), (f"in-Err-{rooms.inner_of(it)}", self.goes, f"({same} {around.format(inner_refused)})")]
-            written = f"(c.in-Ok-{rooms.inner_of(it)}.ensures.boxed.{since})"
+            inner_refused = f"(c.in-Err-serialize_inner.ensures.refused.{since})"
+            self.refusals = [("in-Err", first, f"({same} {around.format(owned)})"), ("in-Err-serialize_inner", self.goes, f"({same} {around.format(inner_refused)})")]
+            written = f"(c.in-Ok-serialize_inner.ensures.boxed.{since})"
             if it.terms.is_option(item):
                 written = f"(serialized_case {case} _ _ _ {written})"
             self.serialized = f"({same} {written})"

@@ -78,6 +78,7 @@ class Recursive:
         self.terms = Terms(declaration)
         self.name, self.archived = declaration.name, declaration.archived
         self.resolver = f"{declaration.name}Resolver"
+        self.seen = f"{declaration.visibility} " if declaration.visibility else ""
         self.n = self.terms.n
         self.source = f"{declaration.name}-Source"  # the type as antt has it, under a name that nothing else has
         self.written = WRITTEN

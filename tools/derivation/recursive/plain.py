@@ -228,7 +228,7 @@ class Plain:
             return f"(map_flat {self.key(type)} {self.shape(type.args[1])} (btree_map_len {x}) {r})"
         each = [self.as_two("flat", arg) for arg in type.args]
         if type.name == "OwnedArray":
-            return f"(list (each_flat {each[0]} {x} {r}.items))"
+            return f"(list (each_flat {each[0]} {x} {r}.kept.items))"
         return f"({'option_flat' if type.name == 'Option' else 'result_flat'} {' '.join(each)} {x} {r})"
 
     def belongs(self, type, x, r):
@@ -253,7 +253,7 @@ class Plain:
             return f"(btree_map_len {x} ≤ 4294967295)"
         each = [self.as_two("belongs", arg) for arg in type.args]
         if type.name == "OwnedArray":
-            return f"(EachBelongs {each[0]} {x} {r}.items)"
+            return f"(EachBelongs {each[0]} {x} {r}.kept.items)"
         return f"({'OptionBelongs' if type.name == 'Option' else 'ResultBelongs'} {' '.join(each)} {x} {r})"
 
     # ---- laws ----

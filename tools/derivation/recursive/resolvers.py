@@ -47,7 +47,7 @@ pub struct {it.resolver} {{
         lines += statement(4, "", Group(f"{case.name}(", [kept_of(it, case)], ")"), ",") if case.count else f"    {case.name},\n"
     return f"""/// What is kept of `{it.name}` between `serialize` and `resolve`.
 #[derive(Drop)]
-pub enum {it.resolver} {{
+{it.seen}enum {it.resolver} {{
 {lines}}}
 """
 

@@ -147,14 +147,14 @@ def box_written(it, type, answers):
     function, inner = f"serialize_{it.word(type)}", f"serialize_{it.word(item)}"
     D, X = it.terms.definitions(item), it.terms.shape(item)
     same = "let same : c.deref-inner.result.now ≡ c.args.value.now.value = grind (arith, common_steps) in rw (← same)"
-    goes = f"(goes_both _ _ _ c.{inner}.ensures.goes_on c.{rooms.inner_of(it)}.ensures.goes_on)"
+    goes = f"(goes_both _ _ _ c.{inner}.ensures.goes_on c.serialize_inner.ensures.goes_on)"
     answers.answer(
         function, "returns-in-Err-clause-refused", f"rw c.handed_on.ensures ({same} (box_refused {D} (one {X}) 0 _ _ _ _ _ (one_owned {D} {X} _ _ _ _ _ c.in-Err.ensures.refused)))"
     )
-    answers.answer(function, f"returns-in-Ok-{rooms.inner_of(it)}-clause-serialized", f"({same} (c.in-Ok-{rooms.inner_of(it)}.ensures.boxed.since _ c.{inner}.ensures.goes_on c.in-Ok.ensures.serialized))")
-    answers.answer(function, f"returns-in-Ok-{rooms.inner_of(it)}-clause-goes_on", goes)
-    answers.answer(function, f"returns-in-Err-{rooms.inner_of(it)}-clause-goes_on", goes)
-    answers.answer(function, f"returns-in-Err-{rooms.inner_of(it)}-clause-refused", f"({same} (c.in-Err-{rooms.inner_of(it)}.ensures.refused.since _ c.{inner}.ensures.goes_on c.in-Ok.ensures.serialized))")
+    answers.answer(function, "returns-in-Ok-serialize_inner-clause-serialized", f"({same} (c.in-Ok-serialize_inner.ensures.boxed.since _ c.{inner}.ensures.goes_on c.in-Ok.ensures.serialized))")
+    answers.answer(function, "returns-in-Ok-serialize_inner-clause-goes_on", goes)
+    answers.answer(function, "returns-in-Err-serialize_inner-clause-goes_on", goes)
+    answers.answer(function, "returns-in-Err-serialize_inner-clause-refused", f"({same} (c.in-Err-serialize_inner.ensures.refused.since _ c.{inner}.ensures.goes_on c.in-Ok.ensures.serialized))")
 
 
 def option_written(it, type, answers):
@@ -167,15 +167,15 @@ def option_written(it, type, answers):
     D, X, Y = it.terms.definitions(type), it.terms.shape(item), it.terms.shape(type.args[0])
     case = f"{D} {D} (λ s k. k) _ _ 1 {Y} refl _ _"
     same = "let same : c.deref-inner.result.now ≡ c.in-Some.whole.value = grind (arith, common_steps) in rw (c.in-Some.is, ← same)"
-    goes = f"(goes_both _ _ _ c.{inner}.ensures.goes_on c.{rooms.inner_of(it)}.ensures.goes_on)"
+    goes = f"(goes_both _ _ _ c.{inner}.ensures.goes_on c.serialize_inner.ensures.goes_on)"
     since = f"ensures.{{}}.since _ c.{inner}.ensures.goes_on c.in-Ok.ensures.serialized"
     owned = f"(box_refused {D} (one {X}) 0 _ _ _ _ _ (one_owned {D} {X} _ _ _ _ _ c.in-Err.ensures.refused))"
     answers.answer(function, "returns-in-None-clause-serialized", f"rw c.in-None.is (serialized_empty_case {D} _ _ 0 refl _)")
     answers.answer(function, "returns-in-Err-clause-refused", f"rw c.handed_on.ensures ({same} (case_refused {case} _ _ _ {owned}))")
-    answers.answer(function, f"returns-in-Ok-{rooms.inner_of(it)}-clause-serialized", f"({same} (serialized_case {case} _ _ _ (c.in-Ok-{rooms.inner_of(it)}.{since.format('boxed')})))")
-    answers.answer(function, f"returns-in-Ok-{rooms.inner_of(it)}-clause-goes_on", goes)
-    answers.answer(function, f"returns-in-Err-{rooms.inner_of(it)}-clause-goes_on", goes)
-    answers.answer(function, f"returns-in-Err-{rooms.inner_of(it)}-clause-refused", f"({same} (case_refused {case} _ _ _ (c.in-Err-{rooms.inner_of(it)}.{since.format('refused')})))")
+    answers.answer(function, "returns-in-Ok-serialize_inner-clause-serialized", f"({same} (serialized_case {case} _ _ _ (c.in-Ok-serialize_inner.{since.format('boxed')})))")
+    answers.answer(function, "returns-in-Ok-serialize_inner-clause-goes_on", goes)
+    answers.answer(function, "returns-in-Err-serialize_inner-clause-goes_on", goes)
+    answers.answer(function, "returns-in-Err-serialize_inner-clause-refused", f"({same} (case_refused {case} _ _ _ (c.in-Err-serialize_inner.{since.format('refused')})))")
 
 
 def run_written(it, type, answers):

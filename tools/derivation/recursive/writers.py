@@ -13,7 +13,7 @@ from . import code, resolvers
 
 
 def writing(it):
-    out = [rooms.regions(it)] + [owner_writing(it, type) for type in it.owners if it.is_written(type)]
+    out = [owner_writing(it, type) for type in it.owners if it.is_written(type)]
     if it.is_record:
         out.append(record_writing(it))
     else:
@@ -56,7 +56,7 @@ fn serialize_{name}<{it.writer}>(value: &{T}, serializer: &mut S) -> Result<BoxR
         Ok(kept) => kept,
         Err(error) => return Err(handed_on(error)),
     }};
-    match {rooms.inner_of(it)}(inner, kept, serializer) {{
+    match serialize_inner(inner, kept, serializer) {{
         Ok(at) => Ok(at),
         Err(error) => Err(error),
     }}
@@ -97,7 +97,7 @@ fn serialize_{name}<{it.writer}>(value: &{T}, serializer: &mut S) -> Result<RcWe
                 Ok(kept) => kept,
                 Err(error) => return Err(handed_on(error)),
             }};
-            match {rooms.inner_of(it)}(inner, kept, serializer) {{
+            match serialize_inner(inner, kept, serializer) {{
                 Ok(at) => Ok(Some(at)),
                 Err(error) => Err(error),
             }}
@@ -344,7 +344,7 @@ def inner_written(it, box, name, indent):
 {pad}    Ok(kept) => kept,
 {pad}    Err(error) => return Err(handed_on(error)),
 {pad}}};
-{pad}let resolver = match {rooms.inner_of(it)}(inner, kept, serializer) {{
+{pad}let resolver = match serialize_inner(inner, kept, serializer) {{
 {pad}    Ok(resolver) => resolver,
 {pad}    Err(error) => return Err(error),
 {pad}}};

@@ -1,4 +1,4 @@
-"""Arrays in other types: those of bytes are read back as they are, others as `OwnedArray`s, of which functions of the module make them."""
+"""Arrays in other types: those of integers, `bool` and `char` are read back as they are, others as `OwnedArray`s, of which functions of the module make them."""
 
 from derivation import write
 
@@ -10,21 +10,38 @@ def bare(text):
     return "".join(text.split()).replace(",)", ")").replace(",}", "}").replace(",>", ">")
 
 
-class ArraysOfBytes(RepositoryTest):
+class ArraysOfNumbers(RepositoryTest):
     def written(self, text):
         path = self.put(text)
         self.assertEqual(self.run_command(path), (0, ""))
         return bare(self.text(path))
 
     def test_they_are_read_as_they_are(self):
-        text = self.written("pub struct A { pub y: Option<[u8; 16]>, pub z: (u32, [u8; 4]) }\n")
-        self.assertIn("typeAOwned=(Option<[u8;16]>,((u32,[u8;4]),()));", text)
-        self.assertIn("typeAParts=(ArchivedOption<[u8;16]>,(ArchivedTuple2<ArchivedU32,[u8;4]>,()));", text)
-        self.assertNotIn("into_array", text)
+        text = self.written("pub struct A { pub x: [u16; 2], pub y: Option<[u8; 16]>, pub z: (u32, [bool; 4]) }\n")
+        self.assertIn("typeAOwned=(OwnedArray<u16,2>,(Option<[u8;16]>,((u32,[bool;4]),())));", text)
+        self.assertIn("typeAParts=([ArchivedU16;2],(ArchivedOption<[u8;16]>,(ArchivedTuple2<ArchivedU32,[bool;4]>,())));", text)
+        self.assertIn("A{x:a0.into_array(),y:a1,z:a2}", text)
 
     def test_they_are_in_variants(self):
-        text = self.written("pub enum A { X, Y(Result<[u8; 4], String>) }\n")
-        self.assertIn("ArchivedResult<[u8;4],ArchivedString>", text)
+        text = self.written("pub enum A { X, Y(Result<[usize; 4], String>) }\n")
+        self.assertIn("ArchivedResult<[ArchivedUsize;4],ArchivedString>", text)
+        self.assertNotIn("OwnedArray", text)
+
+    def test_they_are_behind_pointers(self):
+        for type, archived in (
+            ("Vec<[u8; 4]>", "ArchivedVec<[u8;4]>"),
+            ("Option<Box<[i32; 3]>>", "ArchivedOption<ArchivedBox<[ArchivedI32;3]>>"),
+            ("BoxSlice<[char; 2]>", "ArchivedBox<ArchivedSlice<[ArchivedChar;2]>>"),
+            ("Shared<[u64; 2]>", "ArchivedRc<[ArchivedU64;2],RcFlavor>"),
+            ("Vec<(u8, [u8; 2])>", "ArchivedVec<ArchivedTuple2<u8,[u8;2]>>"),
+            ("BTreeMap<String, [u8; 4]>", "ArchivedSortedMap<ArchivedString,[u8;4]>"),
+        ):
+            with self.subTest(type):
+                uses = "use archive_core::boxed::BoxSlice;\nuse archive_core::rc::Shared;\nuse std::collections::BTreeMap;\n"
+                text = self.written(f"{uses}pub struct A {{ pub x: {type} }}\npub enum B {{ X, Y({type}) }}\n")
+                self.assertIn(f"typeAParts=({archived},());", text)
+                self.assertIn(f"typeAOwned=({bare(type)},());", text)
+                self.assertNotIn("OwnedArray", text)
 
 
 class ArraysWithin(RepositoryTest):
@@ -32,27 +49,28 @@ class ArraysWithin(RepositoryTest):
         return bare(write.written(self.module(text)))
 
     def test_they_are_made_of_what_is_read_in_their_place(self):
-        text = self.written("struct A { x: Option<[u32; 4]> }\n")
-        self.assertIn("typeAOwned=(Option<OwnedArray<u32,4>>,());", text)
-        self.assertIn("typeAParts=(ArchivedOption<[ArchivedU32;4]>,());", text)
-        self.assertIn("fnmade_option_array4_u32(read:Option<OwnedArray<u32,4>>)->Option<[u32;4]>ensures{result≡read}", text)
-        self.assertIn("A{x:made_option_array4_u32(a0)}", text)
+        text = self.written("struct A { x: Option<[String; 4]> }\n")
+        self.assertIn("typeAOwned=(Option<OwnedArray<String,4>>,());", text)
+        self.assertIn("typeAParts=(ArchivedOption<[ArchivedString;4]>,());", text)
+        self.assertIn("fnmade_option_array4_string(read:Option<OwnedArray<String,4>>)->Option<[String;4]>ensures{result≡read}", text)
+        self.assertIn("A{x:made_option_array4_string(a0)}", text)
 
     def test_each_holder_has_its_way(self):
-        text = self.written("enum A { X(Result<[bool; 2], String>), Y(([char; 3], u8)), Z([[u16; 2]; 3]) }\n")
+        text = self.written("enum A { X(Result<[String; 2], String>), Y(([String; 3], u8)), Z([[String; 2]; 3]) }\n")
         self.assertIn("{matchread{Ok(value)=>Ok(value.into_array()),Err(value)=>Err(value)}}", text.replace(",}", "}"))
         self.assertIn("{let(a0,a1)=read;(a0.into_array(),a1)}", text)
         self.assertIn("{let[a0,a1,a2]=read.into_array();[a0.into_array(),a1.into_array(),a2.into_array()]}", text)
 
-    def test_bytes_beside_them_are_left(self):
-        text = self.written("struct A { x: Result<[u8; 4], [u32; 2]>, y: [[u8; 4]; 2] }\n")
+    def test_numbers_beside_them_are_left(self):
+        text = self.written("struct A { x: Result<[u32; 4], [String; 2]>, y: [[u32; 4]; 20] }\n")
         self.assertIn("{matchread{Ok(value)=>Ok(value),Err(value)=>Err(value.into_array())}}", text.replace(",}", "}"))
+        self.assertIn("OwnedArray<[u32;4],20>", text)
         self.assertIn("y:a1.into_array()}", text)
 
     def test_a_function_is_written_once(self):
-        text = self.written("struct A { x: Option<[u32; 4]>, y: (u8, [u32; 4]) }\nenum B { X(Option<[u32; 4]>), Y(Result<[u32; 4], u8>) }\nstruct C { x: [Option<[u32; 4]>; 2] }\n")
-        self.assertEqual(text.count("fnmade_option_array4_u32("), 1)
-        self.assertIn("[made_option_array4_u32(a0),made_option_array4_u32(a1)]", text)
+        text = self.written("struct A { x: Option<[String; 4]>, y: (u8, [String; 4]) }\nenum B { X(Option<[String; 4]>), Y(Result<[String; 4], u8>) }\nstruct C { x: [Option<[String; 4]>; 2] }\n")
+        self.assertEqual(text.count("fnmade_option_array4_string("), 1)
+        self.assertIn("[made_option_array4_string(a0),made_option_array4_string(a1)]", text)
 
     def test_an_array_of_own_values(self):
         text = self.written("struct P { x: u8 }\nstruct A { x: Option<[P; 2]>, y: [Option<[String; 2]>; 1] }\n")
@@ -60,7 +78,7 @@ class ArraysWithin(RepositoryTest):
         self.assertIn("OwnedArray<Option<OwnedArray<String,2>>,1>", text)
 
     def test_two_runs_write_the_same(self):
-        path = self.put("struct A { x: Option<[u32; 4]>, y: ([i8; 2], u8), z: Result<[u64; 2], String> }\n")
+        path = self.put("struct A { x: Option<[String; 4]>, y: ([i8; 2], u8), z: Result<[u64; 2], String> }\n")
         self.assertEqual(self.run_command(path), (0, ""))
         once = self.text(path)
         self.assertEqual(self.run_command(path), (0, ""))
@@ -73,17 +91,38 @@ class Refused(RepositoryTest):
         said = self.refusal(f"use archive_core::core_impls::OwnedArray;\nuse archive_core::rc::Shared;\nstruct P<T> {{ x: T }}\nstruct A {{ y: {type} }}\n")
         return said.removeprefix("4: ")
 
-    def test_an_array_behind_a_pointer(self):
-        for type, name in (("Vec<[u32; 4]>", "Vec"), ("Option<Box<[u8; 2]>>", "Box"), ("[Vec<[u8; 2]>; 2]", "Vec"), ("Shared<[u16; 3]>", "Shared")):
+    def test_an_array_of_others_behind_a_pointer(self):
+        for type, name, item in (
+            ("Vec<[String; 4]>", "Vec", "String"),
+            ("Option<Box<[Option<u8>; 4]>>", "Box", "Option<u8>"),
+            ("[Vec<[[u8; 2]; 4]>; 2]", "Vec", "[u8; 2]"),
+            ("Shared<Option<[String; 4]>>", "Shared", "String"),
+            ("OwnedArray<[String; 4], 2>", "OwnedArray", "String"),
+        ):
             with self.subTest(type):
-                self.assertIn(f"the check states nothing of an array in a `{name}`; put `[u", self.refused(type))
+                self.assertEqual(
+                    self.refused(type),
+                    f"an array of `{item}` in `{name}` is read back as an `OwnedArray`; write `OwnedArray<{item}, 4>`, of `archive_core::core_impls`",
+                )
+        self.declaration("use archive_core::core_impls::OwnedArray;\nstruct A { x: Vec<OwnedArray<String, 4>>, y: OwnedArray<[u8; 4], 2> }\n")
+
+    def test_many_fields_with_arrays_behind_pointers(self):
+        fields = ["a: Vec<[u8; 4]>", "b: Box<[i8; 2]>", "c: Option<Box<[u32; 3]>>", "d: [u8; 4]", "e: Vec<u8>", "f: Vec<(u8, [u8; 2])>"]
+        said = "4 fields have an array behind a pointer, and 3 are the most; put some into a struct of their own"
+        for one in (f"struct A {{ {', '.join(fields[:5])} }}\n", f"enum A {{ X {{ {', '.join(fields[:5])} }}, Y(Vec<[u8; 4]>) }}\n"):
+            self.declaration(one)
+        self.assertEqual(self.refusal(f"struct A {{ {', '.join(fields)} }}\n"), f"1: {said}")
+        self.assertEqual(self.refusal(f"enum A {{ X {{ {', '.join(fields)} }}, Y }}\n"), f"1: {said}")
+
+    def test_an_array_behind_a_pointer_in_a_type_that_is_written_otherwise(self):
+        said = self.refusal("struct A<T> { x: T, y: Vec<[u8; 4]> }\n")
+        self.assertIn("an array behind a pointer in a type with type parameters isn't proved; put `[u8; 4]` into a struct of its own", said)
+        said = self.refusal("enum R { X(u8), Y(Box<R>) }\nstruct A { x: R, y: Vec<[u8; 4]> }\n")
+        self.assertIn("an array behind a pointer in a type with a recursive type isn't proved; put `[u8; 4]` into a struct of its own", said)
 
     def test_an_array_in_the_arguments_of_a_struct(self):
         self.assertEqual(self.refused("P<[u32; 4]>"), "an array in the arguments of a struct isn't read back; write a `Vec` in place of `[u32; 4]`")
 
-    def test_an_array_in_an_owned_one(self):
-        self.assertEqual(self.refused("OwnedArray<[u32; 4], 2>"), "an array in another type is read back as an `OwnedArray`; write `OwnedArray<u32, 4>`, of `archive_core::core_impls`")
-
     def test_more_arrays_than_are_taken_apart(self):
-        self.assertEqual(self.refused("[[u32; 4]; 4]"), "an array of more than 3 arrays isn't read back; put `[u32; 4]` into a struct of its own")
-        self.declaration("struct A { x: [[u32; 4]; 3] }")
+        self.assertEqual(self.refused("[[String; 4]; 4]"), "an array of `String` in more than 3 others is read back as an `OwnedArray`; write `OwnedArray<String, 4>`, of `archive_core::core_impls`")
+        self.declaration("use archive_core::core_impls::OwnedArray;\nstruct A { x: [[String; 4]; 3], y: [OwnedArray<String, 4>; 4] }")

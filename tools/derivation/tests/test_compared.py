@@ -34,6 +34,11 @@ class Compared(RepositoryTest):
                 self.assertEqual("impl Ordered for ArchivedA {" in text, is_there)
                 self.assertEqual("impl Ordered for ArchivedB {" in text, is_there)
 
+    def test_not_of_variants_that_are_too_deep(self):
+        deep = "B(i32, Vec<Vec<Box<archive_core::primitive::ArchivedNonZeroI64>>>)"
+        self.assertIn("impl Ordered", self.written("#[derive(Eq)]\nenum K { A, B(i32, Vec<Box<i64>>), C(String) }"))
+        self.assertNotIn("impl Ordered", self.written(f"#[derive(Eq)]\nenum K {{ T {{ x: i8 }}, A, S(String), {deep}, N }}"))
+
     def test_a_type_of_others(self):
         derived = "#[derive(Ord)]\n"
         text = self.written(f"{derived}struct A {{ b: B }}\n{derived}struct B;\n{derived}struct C {{ d: E }}\nstruct E;")

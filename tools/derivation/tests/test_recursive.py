@@ -3,6 +3,7 @@
 import os
 import re
 
+from derivation import write
 from derivation.files import naming
 
 from .repository import RepositoryTest
@@ -15,6 +16,12 @@ FAMILY = "#[derive(Drop)]\npub struct Dir { name: String, entries: Vec<Entry> }\
 class Recursive(RepositoryTest):
     def beside(self, *path):
         return self.text(os.path.join(self.top, "crates", "game", *path))
+
+    def test_what_is_kept_is_seen_as_the_type_is(self):
+        for seen in ("", "pub(crate) ", "pub "):
+            text = write.written(self.module(f"{seen}struct P;\n{seen}enum L {{ N, C(P, Box<L>) }}\n{seen}enum T {{ U(P), V(Vec<T>) }}"))
+            for name in ("LResolver", "LKept", "LFront", "TResolver"):
+                self.assertIn(f"\n{seen}enum {name} {{", text)
 
     def test_the_files_of_a_list(self):
         path = self.put(LIST)

@@ -84,7 +84,7 @@ module _ (D : Definitions) (P : Pointee) (n key : ℕ) (ks : List Naming) (v : V
   -- what hinders the region hinders the pointer
   pub region_refused : (flavor : Flavor) (old low new : WriterState) (e : Error) → Begins key old low → GoesOn low new → IsRegionRefused D P n ks v low new e → RefusedUnder D flavor P n key ks v old new e
   region_refused flavor old low new e b go h = shared_refused D P n ks v flavor key (Err e) old new e refl (λ s is. (let no : old.states key ≡ None = b.unknown in cc))
-      (shared_hindered D P n ks v key old low new e (b.unknown) (b.same) (b.pending) go h)
+      (λ none. shared_hindered D P n ks v key old low new e none (b.same) (b.pending) go h)
 
 -- too many elements hinder the pointer, whether their key is known or was begun
 pub long_begun : (D : Definitions) (X : Shape) (n key : ℕ) (ks : List Naming) (vs : Values) (flavor : Flavor) (old new : WriterState) (known : Option ℕ) → IfSome known (λ t. IsKnown key t old new)

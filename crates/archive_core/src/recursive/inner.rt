@@ -77,10 +77,48 @@ fn serialize_elements<S: Writer + ResolverAlloc, T: Archive, B: Allocator + Drop
     resolve_inner_slice(values, resolvers, serializer)
 }
 
+/// The same for a level that writes more than one vector: its result, of which an error takes 72
+/// bytes, has room in the level only while it lasts.
+#[inline(always)]
+pub fn serialize_run<S: Writer + ResolverAlloc, T: Archive, B: Allocator + Drop>(
+    values: &[T],
+    resolvers: Vec<T::Resolver, B>,
+    serializer: &mut S,
+) -> Result<VecResolver, Error>
+    requires same_values { EachBelongs T.belongs values.now resolvers.items }
+    ensures listed { IfOk result (InnerListed T.Archive T.Archived.Portable values.now
+        resolvers.items S.Keys serializer) }
+    ensures goes_on { GoesOn (S.state serializer.old) (S.state serializer.new) }
+    ensures refused { IfErr result (ListingRefused T.Archive T.Archived.Portable values.now
+        resolvers.items S.Keys serializer) }
+{
+    // Two branches, though both call the same: in the first the region of no elements is in line, so
+    // that a leaf costs no call, in the second it is the call, and the result of each has room only
+    // while it lasts. Where both share one result, its room lasts as long as the level: one of
+    // `Expr` takes 336 bytes of stack then, and 272 so.
+    if values.is_empty() {
+        return serialize_inner_slice(values, resolvers, serializer);
+    }
+    serialize_inner_slice(values, resolvers, serializer)
+}
+
 /// Writes the region of a value that was serialized, and returns the resolver of a box of it, as
-/// `boxed::serialize_inner` does.
-#[inline(never)]
+/// `boxed::serialize_inner` does, by a call whose result has its room only while it lasts.
+#[inline(always)]
 pub fn serialize_inner<S: Writer + ResolverAlloc, T: Archive>(
+    value: &T,
+    resolver: T::Resolver,
+    serializer: &mut S,
+) -> Result<BoxResolver, Error>
+    requires same_value { T.belongs value.now resolver }
+    ensures { BoxesInner T.Archive T.Archived.Portable value.now resolver S.Keys serializer result }
+{
+    serialize_value(value, resolver, serializer)
+}
+
+// The same by a call.
+#[inline(never)]
+fn serialize_value<S: Writer + ResolverAlloc, T: Archive>(
     value: &T,
     resolver: T::Resolver,
     serializer: &mut S,

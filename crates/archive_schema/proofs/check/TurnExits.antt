@@ -165,17 +165,26 @@ pub opens_no_part : {m : Checker} {s : RangeState} {met : Positions} {old : List
 opens_no_part {m = m} {s = s} {met = met} {old = old} {a = a} {b = b} {c = c} {p = p} ready skipped le ge =
     turn_taken (record { ready = record { below = ready.below; fits = ready.fits.1 }; leads = skip_all m p old s met a b c skipped le ge; ends = falls_none _ _ })
 
--- the part c is next, where no part before it is to be opened
-pub part_opened : {m : Checker} {s : RangeState} {old rest : List Work} {a b c p : ℕ} {x : Part}
-    → Ready m s (Parts a b p ∷ old) → a ≤ c → (lt : c < b) → IsAt m.parts.now c x → IsMore (Parts (c + 1) b p) (b ≤ c + 1) rest old → Ready m s (PartWork x.node (p + x.offset) ∷ rest)
-part_opened {m = m} {s = s} {old = old} {rest = rest} {a = a} {b = b} {c = c} {p = p} {x = x} ready from lt at more =
-    let from_c : Ready m s (Parts c b p ∷ old) = record { below = ready.below; fits = (fits_from m p (c - a) a b c ready.fits.0 (omega arith) (omega arith), ready.fits.1) } in
-    part_ready m s none_met old rest c b p x from_c lt at more
-  where
-    none_met : Positions
-    none_met position = None
+-- the part c comes next, where no part before it is to be opened
+pub part_next : {m : Checker} {s : RangeState} {met : Positions} {old rest : List Work} {a b c p : ℕ} {x : Part}
+    → Ready m s (Parts a b p ∷ old) → ((k : ℕ) → a ≤ k → k < c → PartIsLegalHere m p k) → a ≤ c → c < b → IsAt m.parts.now c x → IsMore (Parts (c + 1) b p) (b ≤ c + 1) rest old
+    → Turned m (Listing m) (cost m s.end (Parts a b p ∷ old)) (stage s met (Parts a b p ∷ old)) (stage s met (PartWork x.node (p + x.offset) ∷ rest))
+part_next {m = m} {s = s} {met = met} {old = old} {rest = rest} {a = a} {b = b} {c = c} {p = p} {x = x} ready skipped from lt at more =
+    let from_c = skip_ready m p old s met a b c skipped ready from (omega arith) in
+    let less = skip_costs m p old (c - a) a b c s.end (omega arith) (omega arith) ready.fits.0.last in
+    let falls = part_ends m s met old rest c b p x lt from_c.fits.0.last from_c.fits.0.few at more in
+    record {
+      ready = part_ready m s met old rest c b p x from_c lt at more;
+      leads = leads_then m (Listing m) (stage s met (Parts a b p ∷ old)) (stage s met (Parts c b p ∷ old)) (stage s met (PartWork x.node (p + x.offset) ∷ rest)) (skip_leads m p old s met a b c skipped from (omega arith)) (part_leads m s met old rest c b p x lt at more);
+      ends = omega (arith, less, falls);
+    }
 
--- likewise the element c
+pub opens_part : {m : Checker} {s : RangeState} {met : Positions} {old rest : List Work} {a b c p : ℕ} {x : Part} {y : Stage} {r : Option (Unit {0})} {fault : Error}
+    → Ready m s (Parts a b p ∷ old) → ((k : ℕ) → a ≤ k → k < c → PartIsLegalHere m p k) → a ≤ c → c < b → IsAt m.parts.now c x → IsMore (Parts (c + 1) b p) (b ≤ c + 1) rest old
+    → Opens m s met rest x.node (p + x.offset) y r fault → OpensParts m s met old a b p y r fault
+opens_part {met = met} ready skipped from lt at more h = let next = part_next {met = met} ready skipped from lt at more in turn_then h (omega (arith, next.ends)) next.leads
+
+-- the element c is next, where none before it is to be opened
 pub element_opened : {m : Checker} {s : RangeState} {old rest : List Work} {j n p c z : ℕ}
     → Ready m s (Elements j n p ∷ old) → (takes : Takes m j z) → c < n → IsMore (Elements j (n - c - 1) (p + c * z + z)) (n - c - 1 ≡ 0) rest old → Ready m s (PartWork j (p + c * z) ∷ rest)
 element_opened {m = m} {s = s} {old = old} {rest = rest} {j = j} {n = n} {p = p} {c = c} {z = z} ready takes lt more =
@@ -183,16 +192,6 @@ element_opened {m = m} {s = s} {old = old} {rest = rest} {j = j} {n = n} {p = p}
   where
     none_met : Positions
     none_met position = None
-
-pub opens_part : {m : Checker} {s : RangeState} {met : Positions} {old rest : List Work} {a b c p : ℕ} {x : Part} {y : Stage} {r : Option (Unit {0})} {fault : Error}
-    → Ready m s (Parts a b p ∷ old) → ((k : ℕ) → a ≤ k → k < c → PartIsLegalHere m p k) → a ≤ c → c < b → IsAt m.parts.now c x → IsMore (Parts (c + 1) b p) (b ≤ c + 1) rest old
-    → Opens m s met rest x.node (p + x.offset) y r fault → OpensParts m s met old a b p y r fault
-opens_part {m = m} {s = s} {met = met} {old = old} {rest = rest} {a = a} {b = b} {c = c} {p = p} {x = x} ready skipped from lt at more h =
-    let from_c = skip_ready m p old s met a b c skipped ready from (omega arith) in
-    let less = skip_costs m p old (c - a) a b c s.end (omega arith) (omega arith) ready.fits.0.last in
-    let falls = part_ends m s met old rest c b p x lt from_c.fits.0.last from_c.fits.0.few at more in
-    turn_then h (omega (arith, less, falls))
-    (leads_then m (Listing m) (stage s met (Parts a b p ∷ old)) (stage s met (Parts c b p ∷ old)) (stage s met (PartWork x.node (p + x.offset) ∷ rest)) (skip_leads m p old s met a b c skipped from (omega arith)) (part_leads m s met old rest c b p x lt at more))
 
 -- an entry is taken
 

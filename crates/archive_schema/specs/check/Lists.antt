@@ -1,14 +1,31 @@
 -- The work list of a check.
 use denote.Triple.Both.{Both}
 use denote.Ref.{MutBor}
-use Rattle.std.specs.Prelude.{◌≡◌, ◌⊎◌, ℕ, ◌+◌, ◌<◌, List, ◌∷◌, reverse}
+use Rattle.std.specs.Prelude.{◌≡◌, ◌⊎◌, ℕ, ◌+◌, ◌<◌, List, ◌∷◌, reverse, Option, Some, None}
 use Rattle.archive_schema.specs.declared.check.worklist.Work.{Work}
-use Rattle.archive_schema.specs.declared.check.worklist.Work.TheVariants.{Leave}
+use Rattle.archive_schema.specs.declared.check.worklist.Work.TheVariants.{Part, Leave}
+use Rattle.archive_schema.specs.declared.check.worklist.Next.{Next}
+use Rattle.archive_schema.specs.declared.check.worklist.Next.TheVariants.{Here, Listed}
 use Rattle.archive_schema.specs.declared.check.worklist.Worklist.{Worklist}
 
 -- What is left, the next first.
 abbrev pub list_of : Worklist → List Work
 list_of work = reverse work.entries.items
+
+-- What is left where this comes next: a node, and then the list, or the list alone.
+abbrev pub with_next : Next → List Work → List Work
+with_next (Here i p) work = Part i p ∷ work
+with_next Listed work = work
+
+-- So a call leaves it, by its result.
+abbrev pub left_next : Option Next → List Work → List Work
+left_next None work = work
+left_next (Some next) work = with_next next work
+
+-- Whether such a call was taken (Some).
+abbrev pub taken : Option Next → Option (Unit {0})
+taken None = None
+taken (Some next) = Some tt
 
 -- A region is to be left first, from a to b: with the region around it, if that one was to be left first.
 abbrev pub left_first : ℕ → ℕ → List Work → List Work

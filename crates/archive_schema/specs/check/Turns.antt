@@ -11,6 +11,7 @@ use Rattle.archive_schema.specs.declared.plan.PointeeKind.TheVariants.{One}
 use Rattle.archive_schema.specs.declared.check.Checker.{Checker}
 use Rattle.archive_schema.specs.declared.check.worklist.Work.{Work}
 use Rattle.archive_schema.specs.declared.check.worklist.Worklist.{Worklist}
+use Rattle.archive_schema.specs.declared.check.worklist.Next.{Next}
 use Rattle.archive_check.specs.context.Ranges.{RangeState}
 use Rattle.archive_check.specs.context.PositionStates.{Positions}
 use Rattle.archive_check.specs.Tour.{Seen}
@@ -22,6 +23,7 @@ use Rattle.archive_schema.specs.plan.Shallow.{IsMarked}
 use Rattle.archive_schema.specs.plan.PackedPlans.{ArePacked}
 use Rattle.archive_check.specs.Outcomes.{Outcome, done, refused}
 use Rattle.archive_schema.specs.check.Runs.{EnterRuns}
+use Rattle.archive_schema.specs.check.Lists.{list_of, left_next, taken}
 use Rattle.archive_schema.specs.check.LoopInvariant.{Stage, stage, Ready, Listing, Entering, Following, TurnLeads, TurnRefuses, IsStopped, power, level, cost}
 use Rattle.archive_schema.specs.check.Through.{stage_before, stage_behind}
 
@@ -65,9 +67,22 @@ abbrev pub Turn : {A : Type 0} → Context.Ghosts A → Checker → Work → Bot
 Turn k m entry c w result =
     TurnsFrom m (Listing m) (cost_at m (with_entry entry (stage_before k c w))) (with_entry entry (stage_before k c w)) (stage_behind k c w) result w.exit.now.fault
 
+-- What a check is at, at the return of a call that says what comes next.
+abbrev pub stage_next : {A : Type 0} → Context.Ghosts A → Both (MutBor A) (MutBor A) → Both (MutBor Worklist) (MutBor Worklist) → Option Next → Stage
+stage_next k c w result = stage (k.state c.exit.now) (k.positions c.exit.now) (left_next result (list_of w.exit.now))
+
+-- Such a call takes this entry.
+abbrev pub TurnToNext : {A : Type 0} → Context.Ghosts A → Checker → Work → Both (MutBor A) (MutBor A) → Both (MutBor Worklist) (MutBor Worklist) → Option Next → Type 0
+TurnToNext k m entry c w result =
+    TurnsFrom m (Listing m) (cost_at m (with_entry entry (stage_before k c w))) (with_entry entry (stage_before k c w)) (stage_next k c w result) (taken result) w.exit.now.fault
+
 -- A call enters a region.
 abbrev pub TurnEnters : {A : Type 0} → Context.Ghosts A → Checker → PointeeKind → ℕ → ℕ → ℤ → Both (MutBor A) (MutBor A) → Both (MutBor Worklist) (MutBor Worklist) → Option (Unit {0}) → Type 0
 TurnEnters k m target j n z c w result = ComesInto m target j n z (stage_before k c w) (stage_behind k c w) result w.exit.now.fault
+
+-- A call enters a region, and says what comes next.
+abbrev pub EntersToNext : {A : Type 0} → Context.Ghosts A → Checker → PointeeKind → ℕ → ℕ → ℤ → Both (MutBor A) (MutBor A) → Both (MutBor Worklist) (MutBor Worklist) → Option Next → Type 0
+EntersToNext k m target j n z c w result = ComesInto m target j n z (stage_before k c w) (stage_next k c w result) (taken result) w.exit.now.fault
 
 -- A call follows the shared pointer at p.
 abbrev pub TurnFollows : {A : Type 0} → Context.Ghosts A → Checker → ℕ → PointeeKind → ℕ → ℕ → Both (MutBor A) (MutBor A) → Both (MutBor Worklist) (MutBor Worklist) → Option (Unit {0}) → Type 0

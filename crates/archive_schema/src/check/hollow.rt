@@ -1,6 +1,6 @@
 //! Records that end in a run: those with no elements, as a tree's leaves, are checked one after another, and nothing is listed for them.
 
-ghost use Rattle.std.specs.Prelude.{◌+◌, ◌<◌, ◌≤◌, length, IfSome, IsTrue};
+ghost use Rattle.std.specs.Prelude.{◌≡◌, ◌+◌, ◌<◌, ◌≤◌, length, IfSome, IsTrue, false};
 ghost use Rattle.archive_schema.specs.declared.plan.NodeKind.TheVariants.{Pointer as PointerNode};
 ghost use Rattle.archive_schema.specs.declared.plan.PointeeKind.TheVariants.{Run as RunOf};
 ghost use Rattle.archive_schema.specs.check.Runs.{IsNode, Takes};
@@ -21,7 +21,7 @@ use crate::plan::{NodeKind, PointeeKind};
 use archive_check::context::ArchiveContext;
 use archive_check::format::bytes::{read_position, read_u32};
 
-/// A record's parts, of which the last one is a pointer to a run, and the others are shallow.
+/// A record's parts, of which the last one is a pointer to a run, and the others may be any bytes, or are shallow.
 #[derive(Clone, Copy)]
 pub struct Hollow {
     /// The first part.
@@ -90,7 +90,8 @@ impl Checker<'_> {
         context: &mut C,
     ) -> Option<()>
         requires plan { IsCheckable self.now }
-        requires shallow { IsShallowSpan self.now.shallow.now self.now.parts.now first last }
+        requires shallow { is_free ≡ false → IsShallowSpan self.now.shallow.now self.now.parts.now
+            first last }
         requires free { IsTrue is_free → IsFreeSpan self.now.nodes.now self.now.parts.now first
             last }
         requires fits { PartsFit self.now first last base }
@@ -141,7 +142,7 @@ impl Checker<'_> {
         read_u32(self.bytes, at + parts.offset + 4) == 0
     }
 
-    /// The parts of a node, if it is a record whose last part is a pointer to a run, and whose other parts are shallow.
+    /// The parts of a node, if it is a record whose last part is a pointer to a run, and whose other parts may be any bytes or are shallow.
     pub fn hollow(&self, node: usize, size: usize) -> Option<Hollow>
         requires plan { IsCheckable self.now }
         requires takes { Takes self.now node size }
@@ -163,16 +164,28 @@ impl Checker<'_> {
         let PointeeKind::Run = target else {
             return None;
         };
+        let offset = part.offset;
+        let node = part.node;
+        if is_span_free(self.nodes, self.parts, first, end) {
+            return Some(Hollow {
+                first,
+                end,
+                offset,
+                node,
+                pointee,
+                is_free: true,
+            });
+        }
         if !is_span_shallow(self.shallow, self.parts, first, end) {
             return None;
         }
         Some(Hollow {
             first,
             end,
-            offset: part.offset,
-            node: part.node,
+            offset,
+            node,
             pointee,
-            is_free: is_span_free(self.nodes, self.parts, first, end),
+            is_free: false,
         })
     }
 

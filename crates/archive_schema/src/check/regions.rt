@@ -1,17 +1,17 @@
 //! Regions are entered and left.
 
 ghost use Rattle.std.specs.Prelude.{◌≡◌, ◌+◌, ◌<◌, ◌≤◌, ℕ, length, Some, OnSome, IfNone};
-ghost use Rattle.archive_schema.specs.declared.plan.PointeeKind.TheVariants.{Entries};
+ghost use Rattle.archive_schema.specs.declared.plan.PointeeKind.TheVariants.{One, Entries};
 ghost use Rattle.archive_schema.specs.check.Lists.{list_of};
 ghost use Rattle.archive_schema.specs.check.Runs.{RegionIs};
 ghost use Rattle.archive_schema.specs.check.LoopInvariant.{PointeeFits, Ready};
 ghost use Rattle.archive_schema.specs.check.Through.{PassesHeld};
 ghost use Rattle.archive_schema.specs.check.Entered.{EntersRegion, LeavesRegion};
-ghost use Rattle.archive_schema.specs.check.Paid.{Pays};
-ghost use Rattle.archive_schema.specs.check.Turns.{IsCheckable, TurnEnters};
+ghost use Rattle.archive_schema.specs.check.Paid.{Pays, PaysToNext};
+ghost use Rattle.archive_schema.specs.check.Turns.{IsCheckable, TurnEnters, EntersToNext};
 
 use crate::check::Checker;
-use crate::check::worklist::Worklist;
+use crate::check::worklist::{Next, Worklist};
 use crate::plan::extents::unit_of;
 use crate::plan::{NodeKind, PointeeKind};
 use archive_check::context::ArchiveContext;
@@ -183,6 +183,41 @@ impl Checker<'_> {
             PointeeKind::Entries(key) => work.entries(key, pointee, count, begin, false),
             _ => work.elements(pointee, count, begin),
         }
+    }
+
+    /// Enters a box's region, to be left behind what it holds, which comes next, or at once if it is
+    /// shallow.
+    #[inline(always)]
+    pub fn enter_box<C: ArchiveContext>(
+        &self,
+        pointee: usize,
+        position: i128,
+        work: &mut Worklist,
+        context: &mut C,
+    ) -> Option<Next>
+        requires plan { IsCheckable self.now }
+        requires ready { Ready self.now (C.state context.old) (list_of work.old) }
+        requires known { pointee < length self.now.nodes.now }
+        ensures enters { EntersToNext C.Context self.now One pointee 1 position context work
+            result }
+        ensures pays { PaysToNext C.Context self.now 4 context work result }
+    {
+        let region = self.enter_region(PointeeKind::One, pointee, 1, position, work, context)?;
+        let Region {
+            begin,
+            size,
+            outer_start,
+            outer_end,
+        } = region;
+        if self.contents(PointeeKind::One, pointee, 1, begin, size, work, context)? {
+            leave_region(outer_start, outer_end, work, context)?;
+            return Some(Next::Listed);
+        }
+        work.leave(outer_start, outer_end)?;
+        Some(Next::Here {
+            node: pointee,
+            at: begin,
+        })
     }
 
     /// Enters a region so by a call.

@@ -11,13 +11,13 @@ ghost use Rattle.archive_schema.specs.check.LoopInvariant.{Ready};
 ghost use Rattle.archive_check.specs.context.FreshContexts.{KeepsLevels};
 ghost use Rattle.archive_check.specs.context.Pushes.{FewPushed};
 ghost use Rattle.archive_schema.specs.plan.PackedPlans.{size_at};
-ghost use Rattle.archive_schema.specs.check.Paid.{Pays, bytes_of, bytes_of_parts, bytes_of_elements};
-ghost use Rattle.archive_schema.specs.check.Turns.{IsCheckable, Turn, TurnFollows, PassesRoot, StopsInRoot};
+ghost use Rattle.archive_schema.specs.check.Paid.{Pays, PaysToNext, bytes_of, bytes_of_parts, bytes_of_elements};
+ghost use Rattle.archive_schema.specs.check.Turns.{IsCheckable, Turn, TurnToNext, TurnFollows, PassesRoot, StopsInRoot};
 
 use crate::check::Checker;
 use crate::check::hollow::Hollow;
 use crate::check::regions::leave_region;
-use crate::check::worklist::{Work, Worklist};
+use crate::check::worklist::{Next, Work, Worklist};
 use crate::plan::extents::{unit_of, value_offset};
 use crate::plan::{NodeKind, PointeeKind};
 use archive_check::context::{ArchiveContext, SharedContext, ValidationState};
@@ -78,8 +78,155 @@ impl Checker<'_> {
         }
     }
 
+    /// Opens the pointer at `at` to a run, whose node this is.
+    #[inline(always)]
+    fn open_run<C: ArchiveContext + SharedContext>(
+        &self,
+        node: usize,
+        pointee: usize,
+        at: usize,
+        work: &mut Worklist,
+        context: &mut C,
+    ) -> Option<()>
+        requires plan { IsCheckable self.now }
+        requires kind { IsNode self.now node (PointerNode RunOf pointee) }
+        requires ready { Ready self.now (C.state context.old)
+            (PartWork node at ∷ list_of work.old) }
+        ensures turn { Turn C.Context self.now (PartWork node at) context work result }
+        ensures pays { Pays C.Context self.now (size_at self.now.nodes.now node) context work }
+    {
+        let count = self.count(PointeeKind::Run, at);
+        let position = read_position(self.bytes, at, at);
+        self.enter_here(PointeeKind::Run, pointee, count, position, work, context)
+    }
+
+    // The first of the parts from `first` up to `last` that is to be opened, of what begins at `base`, comes next, and the others are left.
+    #[inline(always)]
+    fn next_part<C: ArchiveContext + SharedContext>(
+        &self,
+        first: usize,
+        last: usize,
+        base: usize,
+        work: &mut Worklist,
+        _context: &mut C,
+    ) -> Option<Next>
+        requires plan { IsCheckable self.now }
+        requires ready { Ready self.now (C.state _context.old)
+            (PartsWork first last base ∷ list_of work.old) }
+        ensures turn { TurnToNext C.Context self.now (PartsWork first last base) _context work
+            result }
+        ensures pays { PaysToNext C.Context self.now (bytes_of_parts self.now first last) _context
+            work result }
+    {
+        let next = self.first_to_open(first, last, base);
+        if next >= last {
+            return Some(Next::Listed);
+        }
+        let part = self.parts[next];
+        work.more_parts(next + 1, last, base)?;
+        Some(Next::Here {
+            node: part.node,
+            at: base + part.offset,
+        })
+    }
+
+    // Opens the node at `at`, and says what comes next. Boxes and runs have copies of their own of the code that enters a region, which is shorter.
+    #[inline(always)]
+    fn open_node<C: ArchiveContext + SharedContext>(
+        &self,
+        node: usize,
+        at: usize,
+        work: &mut Worklist,
+        context: &mut C,
+    ) -> Option<Next>
+        requires plan { IsCheckable self.now }
+        requires ready { Ready self.now (C.state context.old)
+            (PartWork node at ∷ list_of work.old) }
+        ensures turn { TurnToNext C.Context self.now (PartWork node at) context work result }
+        ensures pays { PaysToNext C.Context self.now (size_at self.now.nodes.now node) context work
+            result }
+    {
+        if self.shallow[node] {
+            self.check_shallow(node, at, work, context)?;
+            return Some(Next::Listed);
+        }
+        let here = self.nodes[node];
+        match here.kind {
+            NodeKind::Free | NodeKind::Leaf(_) | NodeKind::Str { .. } => {
+                self.check_shallow(node, at, work, context)?;
+                Some(Next::Listed)
+            }
+            NodeKind::Record { first, last } => self.next_part(first, last, at, work, context),
+            NodeKind::Choice { name, first, last } => {
+                let variant = self.chosen(name, first, last, at, work)?;
+                self.next_part(variant.first, variant.last, at, work, context)
+            }
+            NodeKind::Array { count, element } => {
+                work.elements(element, count, at)?;
+                Some(Next::Listed)
+            }
+            NodeKind::Pointer { target, pointee } => match target {
+                PointeeKind::One => {
+                    let position = read_position(self.bytes, at, at);
+                    self.enter_box(pointee, position, work, context)
+                }
+                PointeeKind::Run => {
+                    self.open_run(node, pointee, at, work, context)?;
+                    Some(Next::Listed)
+                }
+                PointeeKind::Text | PointeeKind::Entries(_) => {
+                    let count = self.count(target, at);
+                    let position = read_position(self.bytes, at, at);
+                    self.enter(target, pointee, count, position, work, context)?;
+                    Some(Next::Listed)
+                }
+            },
+            NodeKind::Shared {
+                shared_type,
+                target,
+                pointee,
+            } => {
+                self.follow(shared_type, target, pointee, at, work, context)?;
+                Some(Next::Listed)
+            }
+            NodeKind::Weak {
+                shared_type,
+                target,
+                pointee,
+            } => {
+                if read_i32(self.bytes, at) == 1 {
+                    return Some(Next::Listed);
+                }
+                self.follow(shared_type, target, pointee, at, work, context)?;
+                Some(Next::Listed)
+            }
+        }
+    }
+
+    /// Opens the node at `at`, and one after another those that come next: parts, and what boxes hold.
+    fn open<C: ArchiveContext + SharedContext>(
+        &self,
+        node: usize,
+        at: usize,
+        work: &mut Worklist,
+        context: &mut C,
+    ) -> Option<()>
+        requires plan { IsCheckable self.now }
+        requires ready { Ready self.now (C.state context.old)
+            (PartWork node at ∷ list_of work.old) }
+        ensures turn { Turn C.Context self.now (PartWork node at) context work result }
+        ensures pays { Pays C.Context self.now (size_at self.now.nodes.now node) context work }
+    {
+        let mut here = node;
+        let mut begin = at;
+        while let Next::Here { node, at } = self.open_node(here, begin, work, context)? {
+            here = node;
+            begin = at;
+        }
+        Some(())
+    }
+
     /// Opens the first of the parts from `first` up to `last` that is to be opened, of what begins at `base`, and leaves the others.
-    #[cycle(open)]
     fn open_parts<C: ArchiveContext + SharedContext>(
         &self,
         first: usize,
@@ -94,64 +241,9 @@ impl Checker<'_> {
         ensures turn { Turn C.Context self.now (PartsWork first last base) context work result }
         ensures pays { Pays C.Context self.now (bytes_of_parts self.now first last) context work }
     {
-        let next = self.first_to_open(first, last, base);
-        if next >= last {
-            return Some(());
-        }
-        let part = self.parts[next];
-        work.more_parts(next + 1, last, base)?;
-        self.open(part.node, base + part.offset, work, context)
-    }
-
-    /// Opens the node at `at`.
-    #[cycle(open)]
-    fn open<C: ArchiveContext + SharedContext>(
-        &self,
-        node: usize,
-        at: usize,
-        work: &mut Worklist,
-        context: &mut C,
-    ) -> Option<()>
-        requires plan { IsCheckable self.now }
-        requires ready { Ready self.now (C.state context.old)
-            (PartWork node at ∷ list_of work.old) }
-        ensures turn { Turn C.Context self.now (PartWork node at) context work result }
-        ensures pays { Pays C.Context self.now (size_at self.now.nodes.now node) context work }
-    {
-        if self.shallow[node] {
-            return self.check_shallow(node, at, work, context);
-        }
-        let here = self.nodes[node];
-        match here.kind {
-            NodeKind::Free | NodeKind::Leaf(_) | NodeKind::Str { .. } => self.check_shallow(
-                node, at, work, context,
-            ),
-            NodeKind::Record { first, last } => self.open_parts(first, last, at, work, context),
-            NodeKind::Choice { name, first, last } => {
-                let variant = self.chosen(name, first, last, at, work)?;
-                self.open_parts(variant.first, variant.last, at, work, context)
-            }
-            NodeKind::Array { count, element } => work.elements(element, count, at),
-            NodeKind::Pointer { target, pointee } => {
-                let count = self.count(target, at);
-                let position = read_position(self.bytes, at, at);
-                self.enter_here(target, pointee, count, position, work, context)
-            }
-            NodeKind::Shared {
-                shared_type,
-                target,
-                pointee,
-            } => { self.follow(shared_type, target, pointee, at, work, context) }
-            NodeKind::Weak {
-                shared_type,
-                target,
-                pointee,
-            } => {
-                if read_i32(self.bytes, at) == 1 {
-                    return Some(());
-                }
-                self.follow(shared_type, target, pointee, at, work, context)
-            }
+        match self.next_part(first, last, base, work, context)? {
+            Next::Here { node, at } => self.open(node, at, work, context),
+            Next::Listed => Some(()),
         }
     }
 
@@ -181,28 +273,6 @@ impl Checker<'_> {
         let next = at + passed * size;
         work.more_elements(node, left - passed - 1, next + size)?;
         self.open(node, next, work, context)
-    }
-
-    /// Opens the pointer at `at` to a run, whose node this is.
-    #[inline(always)]
-    fn open_run<C: ArchiveContext + SharedContext>(
-        &self,
-        node: usize,
-        pointee: usize,
-        at: usize,
-        work: &mut Worklist,
-        context: &mut C,
-    ) -> Option<()>
-        requires plan { IsCheckable self.now }
-        requires kind { IsNode self.now node (PointerNode RunOf pointee) }
-        requires ready { Ready self.now (C.state context.old)
-            (PartWork node at ∷ list_of work.old) }
-        ensures turn { Turn C.Context self.now (PartWork node at) context work result }
-        ensures pays { Pays C.Context self.now (size_at self.now.nodes.now node) context work }
-    {
-        let count = self.count(PointeeKind::Run, at);
-        let position = read_position(self.bytes, at, at);
-        self.enter_here(PointeeKind::Run, pointee, count, position, work, context)
     }
 
     /// Opens the record at `at`, whose node and whose parts these are: its run alone, where its other parts may be any bytes.

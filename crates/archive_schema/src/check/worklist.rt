@@ -50,6 +50,15 @@ pub enum Work {
     },
 }
 
+/// What is checked next.
+#[derive(Clone, Copy)]
+pub enum Next {
+    /// The node here, which isn't listed.
+    Here { node: usize, at: usize },
+    /// What is on top of the list.
+    Listed,
+}
+
 /// What is left to check, the next on top, and the error of a check that stopped. The calls that
 /// stop a check return `None` alone, since an error is wide.
 #[derive(Drop)]

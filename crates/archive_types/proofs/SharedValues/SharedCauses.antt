@@ -7,7 +7,6 @@ use Rattle.archive_check.specs.Definitions.{Definitions}
 use Rattle.archive_check.specs.Value.{Value}
 use Rattle.archive_check.specs.WriterState.{KeyState, KeyStates, WriterState, KeepsBytes}
 use Rattle.archive_check.specs.declared.format.error.Error.{Error}
-use Rattle.archive_check.specs.declared.format.error.Error.TheVariants.{CyclicSerialize}
 use Rattle.archive_write.specs.Written.{GoesOn}
 use Rattle.archive_write.specs.Sharing.{IsSet, KeepsKnown, started_key, start_answer}
 use Rattle.archive_check.specs.context.PositionStates.{finish_answer}
@@ -16,7 +15,7 @@ use Rattle.archive_write.specs.declared.sharing.SharingState.{SharingState}
 use Rattle.archive_write.specs.declared.sharing.SharingState.TheVariants.{Started, Pending}
 use Rattle.archive_types.specs.Writing.{LaysOut}
 use Rattle.archive_types.specs.Plans.{cursor, begun, StandsAt, LiesAsPlanned, SerializedRegion, serialized_region, SerializedShared, serialized_shared}
-use Rattle.archive_types.specs.Causes.{Explains, own_cause, HindersRegion, HindersShared, RegionReaches, IsRegionRefused}
+use Rattle.archive_types.specs.Causes.{Explains, HindersRegion, RegionReaches, IsRegionRefused, IsSharedRefused}
 use Rattle.archive_types.proofs.SharedValues.KeyStates.{set_here, set_other}
 use Rattle.archive_types.proofs.Planning.Causes.{goes_kept, explains_later}
 
@@ -38,22 +37,12 @@ begun_goes old mid key unknown same set = goes_kept old mid same (λ k x is. eli
 ])
 
 module _ (D : Definitions) (P : Pointee) (n : ℕ) (ks : List Naming) (v : Value) (key : ℕ) where
-  abbrev Hindered : WriterState → Error → Type 0
-  Hindered old = HindersShared (old.states key) (HindersRegion D P n ks v (begun (cursor old) key))
-
-  abbrev Reached : WriterState → ℕ → Type 0
-  Reached old = RegionReaches D P n ks v (begun (cursor old) key)
-
   pub shared_hindered : (old mid new : WriterState) (e : Error) → old.states key ≡ None → KeepsBytes old mid → IsSet old.states key (started_key (old.states key)) mid.states
-      → GoesOn mid new → IsRegionRefused D P n ks v mid new e → Explains (Hindered old) (Reached old) old new e
+      → GoesOn mid new → IsRegionRefused D P n ks v mid new e → IsSharedRefused D P n key ks v old new e
   shared_hindered old mid new e unknown same set g h =
       let at = begun_cursor old mid key unknown same set in
-      let there : Explains (HindersRegion D P n ks v (begun (cursor old) key)) (Reached old) mid new e
-      = subst (λ c. Explains (HindersRegion D P n ks v c) (RegionReaches D P n ks v c) mid new e) at h in
-      explains_later _ (Hindered old) _ (Reached old) old mid new e (begun_goes old mid key unknown same set) g (λ x. inr x) (λ m x. x) there
-
-  pub shared_pending : (old mid new : WriterState) → old.states key ≡ Some None → Explains (Hindered old) (Reached old) mid new CyclicSerialize
-  shared_pending old mid new is = own_cause (inl (refl, is))
+      let there = subst (λ c. Explains (HindersRegion D P n ks v c) (RegionReaches D P n ks v c) mid new e) at h in
+      explains_later _ _ _ _ old mid new e (begun_goes old mid key unknown same set) g (λ x. x) (λ m x. x) there
 
   -- what an unknown key names was laid out, and the key finished there
   pub laid_shared : (p : ℕ) (old mid low new : WriterState) → old.states key ≡ None → KeepsBytes old mid → IsSet old.states key (started_key (old.states key)) mid.states

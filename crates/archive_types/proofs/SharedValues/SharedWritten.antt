@@ -18,7 +18,7 @@ use Rattle.archive_write.specs.Sharing.{known_answer}
 use Rattle.archive_types.specs.Writing.{NameMap, to_shared}
 use Rattle.archive_types.specs.Members.SharedLaws.{naming_of, as_shared, as_weak}
 use Rattle.archive_types.specs.Plans.{Cursor, cursor, begun, ended, StandsAt, Step, lays, plans_shared, plans_null, plans_new, ValuePlan, RegionPlan, Serialized, serialized, SerializedShared, serialized_shared}
-use Rattle.archive_types.specs.Causes.{Explains, own_cause, of_position, of_length, ValuePart, part_itself, IsOwner, owner_shared, owner_weak, HindersPart, stands_too_far, IsSharedOwner, shared_owner, weak_owner, shared_too_long, HindersStep, part_hinders, length_hinders, end_hinders, HindersSome, Hinders, HindersRegion, HindersShared, PlanReaches, RegionReaches, IsRefused}
+use Rattle.archive_types.specs.Causes.{Explains, own_cause, of_position, of_length, ValuePart, part_itself, IsOwner, owner_shared, owner_weak, HindersPart, stands_too_far, IsSharedOwner, shared_owner, weak_owner, shared_too_long, HindersStep, part_hinders, length_hinders, end_hinders, HindersSome, Hinders, HindersRegion, PlanReaches, RegionReaches, IsRefused, IsSharedRefused}
 use Rattle.archive_types.proofs.Planning.Causes.{explains_sooner, explains_later, explains_write}
 use Rattle.archive_types.proofs.Planning.PlansForward.{begun_below}
 use Rattle.archive_types.proofs.Writing.Appending.{writes_nothing}
@@ -54,25 +54,22 @@ module _ (D : Definitions) (P : Pointee) (n : ℕ) (ks : List Naming) (v : Value
   all = naming_of key flavor P n v ∷ ks
 
   new_refused : (old new : WriterState) (e : Error) → old.states key ≡ None
-      → Explains (HindersShared (old.states key) (HindersRegion D P n ks v (begun (cursor old) key))) (RegionReaches D P n ks v (begun (cursor old) key)) old new e
+      → IsSharedRefused D P n key ks v old new e
       → IsRefused D (shared flavor P) all (shared_value key) old new e
   new_refused old new e none h = explains_sooner _ _ _ _ old new e
-      (λ x. elim x [
-        | inl y ↦ (let no : old.states key ≡ Some None = y.1 in cc)
-        | inr y ↦ record {
-          named = y.named;
-          cause = λ below s names k m. (
-              let q = y.cause (begun_below (cursor old) key below) s names k m.1 in
-              let r = as_shared s names q.plans in
-              record {
-                flat = hole (to_shared q.begin flavor P n);
-                steps = _;
-                stop = ended r.stop key q.begin;
-                plans = plans_shared (plans_new none m.0 r.plans);
-                such = inl (moved_steps s r.before q.begin n P r.last e (subst (λ C. HindersSome s C e) r.was q.such));
-              });
-        }
-      ])
+      (λ x. record {
+        named = x.named;
+        cause = λ below s names k m. (
+            let q = x.cause (begun_below (cursor old) key below) s names k m.1 in
+            let r = as_shared s names q.plans in
+            record {
+              flat = hole (to_shared q.begin flavor P n);
+              steps = _;
+              stop = ended r.stop key q.begin;
+              plans = plans_shared (plans_new none m.0 r.plans);
+              such = inl (moved_steps s r.before q.begin n P r.last e (subst (λ C. HindersSome s C e) r.was q.such));
+            });
+      })
       (λ m x below s names k l. (
       let q = x (begun_below (cursor old) key below) s names k l.1 in
       let r = as_shared s names q.plans in
@@ -86,12 +83,12 @@ module _ (D : Definitions) (P : Pointee) (n : ℕ) (ks : List Naming) (v : Value
 
   -- what `serialize_shared` refuses isn't written
   pub shared_refused : (r : Result ℕ Error) (old new : WriterState) (e : Error) → r ≡ Err e → ((s : Option ℕ) → old.states key ≡ Some s → r ≡ known_answer s)
-      → Explains (HindersShared (old.states key) (HindersRegion D P n ks v (begun (cursor old) key))) (RegionReaches D P n ks v (begun (cursor old) key)) old new e
+      → (old.states key ≡ None → IsSharedRefused D P n key ks v old new e)
       → IsRefused D (shared flavor P) all (shared_value key) old new e
   shared_refused r old new e is known h = by_state (old.states key) refl
     where
       by_state : (state : KeyState) → old.states key ≡ state → IsRefused D (shared flavor P) all (shared_value key) old new e
-      by_state None none = new_refused old new e none h
+      by_state None none = new_refused old new e none (h none)
       by_state (Some None) pending = (let f = known None pending in let same : e ≡ CyclicSerialize = cc in rw same (pending_refused D P n ks v flavor key old new pending))
       by_state (Some (Some t)) done = (let f = known (Some t) done in cc)
 

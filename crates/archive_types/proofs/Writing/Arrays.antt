@@ -137,11 +137,6 @@ fresh_element size w begin p bytes same fits z ends =
     rw k (record { sized = omega (arith, few, length-take size (drop begin bytes)); zeroed = zeroed_front size (drop begin bytes) few z; ends = omega (arith, fits, ends) })
 
 -- in a contract's form
-pub array_serialized_if : {A B : Type 0} (r : Result B Error) (D : Definitions) (X : Shape) (n : ℕ) (k : A → List Naming) (m : A → Value) (xs : List A) → length xs ≡ n → (old new : WriterState) (flats : B → Values)
-    → IfOk r (λ rs. SerializedRun D X (length xs) (each_keys k xs) (each_meaning m xs) (flats rs) old new)
-    → IfOk r (λ rs. Serialized D (array n X) (array_keys n k xs) (array_meaning n m xs) (list (flats rs)) old new)
-array_serialized_if (Ok rs) D X n k m xs count old new flats h = serialized_array D X n k m xs count old new (flats rs) h
-array_serialized_if (Err e) D X n k m xs count old new flats h = tt
 
 pub resolves_array : (D : Definitions) (X : Shape) (p : ℕ) (a : List ℕ) (m n : ℕ) (vs : Values) → m ≡ n → ResolvesRun D p a m X vs → Resolves D p a (array n X) (list vs)
 resolves_array D X p a m n vs count h = resolves_list D X p a n vs (subst (λ c. ResolvesRun D p a c X vs) count h)

@@ -10,8 +10,6 @@ use Rattle.archive_check.specs.declared.format.error.Error.TheVariants.{CyclicSe
 use Rattle.archive_check.specs.Denotes.{Naming}
 use Rattle.archive_check.specs.declared.format.traits.ArchivePointee as ArchivePointee
 use Rattle.archive_check.specs.declared.format.traits.Keys as Keys
-use Rattle.archive_types.specs.Causes.{Explains, HindersRegion, HindersShared, RegionReaches}
-use Rattle.archive_types.specs.Plans.{begun, cursor}
 use Rattle.archive_types.specs.Members.SharedLaws.{flavor_as, naming_of}
 use Rattle.archive_types.specs.declared.rc.Flavor as FlavorOf
 use Rattle.archive_types.specs.declared.traits.ArchiveUnsized as ArchiveUnsized
@@ -29,15 +27,6 @@ abbrev pub AnswersPending : {T S : Type 0} → ℕ → Result T Error → Keys.G
 AnswersPending key result k w =
     (k.state w.entry.now).states key ≡ Some None
     → IsErrOf result CyclicSerialize × KeepsBytes (k.state w.entry.now) (k.state w.exit.now) × KeepsKeys (k.state w.entry.now).states (k.state w.exit.now).states
-
--- Why a source wasn't laid out under its key.
-abbrev pub SharedRefused : {U A M S : Type 0} → ℕ → ArchiveUnsized.Ghosts U A M → ArchivePointee.Ghosts A M → U → Keys.Ghosts S → Both (MutBor S) (MutBor S) → Error → Type 0
-SharedRefused key u g v k w e =
-    Explains
-    (HindersShared ((k.state w.entry.now).states key)
-    (HindersRegion g.definitions g.pointee (u.source_length v) (u.keys v) (u.meaning v) (begun (cursor (k.state w.entry.now)) key)))
-    (RegionReaches g.definitions g.pointee (u.source_length v) (u.keys v) (u.meaning v) (begun (cursor (k.state w.entry.now)) key))
-    (k.state w.entry.now) (k.state w.exit.now) e
 
 module _ {F P M U A N : Type 0} (f : FlavorOf.Ghosts F) (g : ArchivePointee.Ghosts P M) (u : ArchiveUnsized.Ghosts U A N) where
   -- The keys of a source under a key: its own, with what it names, and those in the source.

@@ -2,16 +2,14 @@
 -- and what it is at the return.
 use denote.Triple.Both.{Both}
 use denote.Ref.{MutBor}
-use Rattle.std.specs.Prelude.{◌≡◌, ◌<◌, ◌⊎◌, ◌+◌, ◌++◌, ℕ, Bool, List, length, Result, IsErrOf}
-use Rattle.archive_check.specs.Layout.{pointer_size, has_length}
+use Rattle.std.specs.Prelude.{◌≡◌, ◌++◌, ℕ, Bool, List, Result, IsErrOf}
+use Rattle.archive_check.specs.Layout.{has_length}
 use Rattle.archive_check.specs.Shape.{Pointee}
 use Rattle.archive_check.specs.declared.format.error.Error.{Error}
-use Rattle.archive_check.specs.declared.format.error.Error.TheVariants.{LengthTooLarge}
 use Rattle.archive_check.specs.declared.format.traits.Keys as Keys
 use Rattle.archive_num.specs.Offsets.{distance, IsTooFar}
-use Rattle.archive_num.specs.OwnerBytes.{owner_bytes, HindersPointerAt}
+use Rattle.archive_num.specs.OwnerBytes.{owner_bytes}
 use Rattle.archive_types.specs.declared.place.Place.{Place}
-use Rattle.archive_write.specs.Written.{ExplainsRefusal}
 
 -- The place is as it was: the offset from there to t doesn't fit.
 abbrev pub IsTooFarFrom : {F R : Type 0} → Both (Place F) (MutBor (List ℕ) × R) → ℕ → Error → Type 0
@@ -21,31 +19,14 @@ IsTooFarFrom p t e = (p.exit.0.now ≡ p.entry.bytes.now) × IsTooFar e (distanc
 abbrev pub PointsTo : {F R : Type 0} → Both (Place F) (MutBor (List ℕ) × R) → Bool → ℕ → ℕ → Type 0
 PointsTo p is_long t n = p.exit.0.now ≡ owner_bytes is_long (distance p.entry.pos t) n
 
--- The place is as it was: the length is above 4,294,967,295, or the offset from there to t doesn't fit.
-abbrev pub IsNoPointer : {F R : Type 0} → Both (Place F) (MutBor (List ℕ) × R) → ℕ → ℕ → Error → Type 0
-IsNoPointer p t n e = (p.exit.0.now ≡ p.entry.bytes.now) × (((e ≡ LengthTooLarge) × (4294967295 < n)) ⊎ IsTooFar e (distance p.entry.pos t))
-
 -- Refused so, before anything was written: the writer tells what it told before.
 abbrev pub AtOnce : {T S : Type 0} → Result T Error → Error → Keys.Ghosts S → Both (MutBor S) (MutBor S) → Type 0
 AtOnce result e k w = IsErrOf result e × (k.state w.exit.now ≡ k.state w.entry.now)
 
--- These bytes alone were appended, and stand at p.
-abbrev pub Added : {S : Type 0} → List ℕ → Keys.Ghosts S → Both (MutBor S) (MutBor S) → ℕ → Type 0
-Added bytes k w p = (p ≡ length (k.state w.entry.now).bytes) × ((k.state w.exit.now).bytes ≡ (k.state w.entry.now).bytes ++ bytes)
-
--- These bytes alone were appended; n were.
+-- These bytes alone were appended.
 abbrev pub BytesAdded : {S : Type 0} → List ℕ → Keys.Ghosts S → Both (MutBor S) (MutBor S) → Type 0
 BytesAdded bytes k w = (k.state w.exit.now).bytes ≡ (k.state w.entry.now).bytes ++ bytes
 
--- Why a write of n bytes was refused, where the writer stood at its position.
-abbrev pub WriteRefused : {S : Type 0} → ℕ → (S → ℕ) → Keys.Ghosts S → Both (MutBor S) (MutBor S) → Error → Type 0
-WriteRefused n position k w e =
-    ExplainsRefusal n (position w.entry.now) (length (k.state w.exit.now).bytes) (k.state w.entry.now).room (k.state w.entry.now).failures (k.state w.exit.now).failures e
-
--- A pointer to such a pointee of n elements or bytes at t was appended, at the writer's position; why it wasn't.
+-- A pointer to such a pointee of n elements or bytes at t was appended, at the writer's position.
 abbrev pub Pointed : {S : Type 0} → Pointee → ℕ → ℕ → (S → ℕ) → Keys.Ghosts S → Both (MutBor S) (MutBor S) → Type 0
 Pointed P n t position k w = (k.state w.exit.now).bytes ≡ (k.state w.entry.now).bytes ++ owner_bytes (has_length P) (distance (position w.entry.now) t) n
-
-abbrev pub PointerRefused : {S : Type 0} → Pointee → ℕ → ℕ → (S → ℕ) → Keys.Ghosts S → Both (MutBor S) (MutBor S) → Error → Type 0
-PointerRefused P n t position k w e =
-    (HindersPointerAt n (pointer_size P) (position w.entry.now) t e × (k.state w.exit.now ≡ k.state w.entry.now)) ⊎ WriteRefused (pointer_size P) position k w e

@@ -7,7 +7,7 @@ ghost use Rattle.archive_types.specs.Runs.{each_flat, EachBelongs};
 ghost use Rattle.archive_types.specs.Writing.{ZeroedPlace};
 ghost use Rattle.archive_types.specs.Outcomes.{ResolvesAs};
 
-use super::sources::resolve_elements;
+use super::sources::{ArrayResolver, resolve_elements};
 use crate::place::Place;
 use crate::slice::serialize_each;
 use crate::traits::{Archive, CopyOptimization, Keys, Portable, Serialize};
@@ -76,15 +76,15 @@ impl<T: Drop, const N: usize> OwnedArray<T, N> {
 impl<T: Archive, const N: usize> Archive for OwnedArray<T, N> {
     type Archived = [T::Archived; N];
 
-    type Resolver = Vec<T::Resolver>;
+    type Resolver = ArrayResolver<T::Resolver>;
 
     ghost meaning = { array_meaning N T.meaning };
 
-    ghost flat = { λ v r. list (each_flat T.flat v r.items) };
+    ghost flat = { λ v r. list (each_flat T.flat v r.kept.items) };
 
     ghost keys = { array_keys N T.keys };
 
-    ghost belongs = { λ v r. EachBelongs T.belongs v r.items };
+    ghost belongs = { λ v r. EachBelongs T.belongs v r.kept.items };
 
     ghost in_bulk = { None };
 
@@ -96,17 +96,17 @@ impl<T: Archive, const N: usize> Archive for OwnedArray<T, N> {
     #[inline(always)]
     fn resolve(
         &self,
-        resolver: Vec<T::Resolver>,
+        resolver: ArrayResolver<T::Resolver>,
         place: Place<'_, [T::Archived; N]>,
     ) -> Result<(), Error>
         requires zeroed { ZeroedPlace ⟦<Self::Archived as Portable>⟧.layout.size place.pos
             place.bytes.now }
-        requires same_value { EachBelongs T.belongs self.now resolver.items }
+        requires same_value { EachBelongs T.belongs self.now resolver.kept.items }
         ensures { ResolvesAs ⟦<Self::Archived as Portable>⟧ place
             (⟦<Self as Archive>⟧.flat self.now resolver) result }
     {
         let Place { bytes, pos, .. } = place;
-        resolve_elements(self.as_slice(), resolver, pos, bytes)
+        resolve_elements(self.as_slice(), resolver.kept, pos, bytes)
     }
 
     // Each has its elements in memory of its own, so there is nothing to copy in one piece.
@@ -129,8 +129,11 @@ impl<T: Serialize<S>, S: Writer + ResolverAlloc<Alloc = Global>, const N: usize>
     for OwnedArray<T, N> {
     /// Writes what each element owns, in order. Memory for their resolvers comes from the serializer's allocator, the global one.
     #[inline(always)]
-    fn serialize(&self, serializer: &mut S) -> Result<Vec<T::Resolver>, Error> {
+    fn serialize(&self, serializer: &mut S) -> Result<ArrayResolver<T::Resolver>, Error> {
         let alloc = serializer.resolver_alloc();
-        serialize_each(alloc, self.as_slice(), serializer)
+        match serialize_each(alloc, self.as_slice(), serializer) {
+            Ok(kept) => Ok(ArrayResolver { kept }),
+            Err(error) => Err(error),
+        }
     }
 }

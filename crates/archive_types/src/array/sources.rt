@@ -87,19 +87,28 @@ fn joined(together: usize, len: usize) -> usize
     together.saturating_mul(len)
 }
 
-/// As in rkyv 0.8.18, where the resolvers are an array. They are kept in a vector here, in memory of the global allocator.
+/// What is kept of an array between `serialize` and `resolve`: the resolver of each element, in
+/// memory of the global allocator. In rkyv 0.8.18 it is an array.
+// It is a type of its own, since clauses can't quote the impl of what holds an array whose resolver is a `Vec`.
+#[derive(Drop)]
+pub struct ArrayResolver<R> {
+    /// The resolvers, in order.
+    pub kept: Vec<R>,
+}
+
+/// As in rkyv 0.8.18.
 impl<T: Archive, const N: usize> Archive for [T; N] {
     type Archived = [T::Archived; N];
 
-    type Resolver = Vec<T::Resolver>;
+    type Resolver = ArrayResolver<T::Resolver>;
 
     ghost meaning = { array_meaning N T.meaning };
 
-    ghost flat = { λ v r. list (each_flat T.flat v r.items) };
+    ghost flat = { λ v r. list (each_flat T.flat v r.kept.items) };
 
     ghost keys = { array_keys N T.keys };
 
-    ghost belongs = { λ v r. EachBelongs T.belongs v r.items };
+    ghost belongs = { λ v r. EachBelongs T.belongs v r.kept.items };
 
     ghost in_bulk = { array_in_bulk (N * T.Archived.layout.size) T.in_bulk };
 
@@ -111,17 +120,17 @@ impl<T: Archive, const N: usize> Archive for [T; N] {
     #[inline(always)]
     fn resolve(
         &self,
-        resolver: Vec<T::Resolver>,
+        resolver: ArrayResolver<T::Resolver>,
         place: Place<'_, [T::Archived; N]>,
     ) -> Result<(), Error>
         requires zeroed { ZeroedPlace ⟦<Self::Archived as Portable>⟧.layout.size place.pos
             place.bytes.now }
-        requires same_value { EachBelongs T.belongs self.now resolver.items }
+        requires same_value { EachBelongs T.belongs self.now resolver.kept.items }
         ensures { ResolvesAs ⟦<Self::Archived as Portable>⟧ place
             (⟦<Self as Archive>⟧.flat self.now resolver) result }
     {
         let Place { bytes, pos, .. } = place;
-        resolve_elements(self, resolver, pos, bytes)
+        resolve_elements(self, resolver.kept, pos, bytes)
     }
 
     #[inline(always)]
@@ -149,8 +158,11 @@ impl<T: Serialize<S>, S: Writer + ResolverAlloc<Alloc = Global>, const N: usize>
     for [T; N] {
     /// Writes what each element owns, in order. Memory for their resolvers comes from the serializer's allocator, the global one.
     #[inline(always)]
-    fn serialize(&self, serializer: &mut S) -> Result<Vec<T::Resolver>, Error> {
+    fn serialize(&self, serializer: &mut S) -> Result<ArrayResolver<T::Resolver>, Error> {
         let alloc = serializer.resolver_alloc();
-        serialize_each(alloc, self, serializer)
+        match serialize_each(alloc, self, serializer) {
+            Ok(kept) => Ok(ArrayResolver { kept }),
+            Err(error) => Err(error),
+        }
     }
 }

@@ -1,6 +1,6 @@
 // Boxes as sources: what they own as a region, and the pointer to it.
 
-ghost use Rattle.std.specs.Prelude.{◌≡◌, ◌⊎◌, ◌<◌, ◌≤◌, ℕ, ⊤, IfOk, OnOk, IfErr, FitsSigned, length, false, refl, None};
+ghost use Rattle.std.specs.Prelude.{◌≡◌, ◌⊎◌, ◌<◌, ◌≤◌, ℕ, ⊤, IfOk, OnOk, OnErr, IfErr, FitsSigned, length, false, refl, None};
 ghost use Rattle.std.specs.Int.{w32};
 ghost use Rattle.archive_check.specs.Shape.{boxed};
 ghost use Rattle.archive_check.specs.Layout.{pointer_size, has_length};
@@ -10,7 +10,7 @@ ghost use Rattle.archive_types.specs.Causes.{HindersAt, IsRefused};
 ghost use Rattle.archive_types.specs.Members.Keyed.{box_keyed};
 ghost use Rattle.archive_num.specs.Offsets.{distance, IsTooFar};
 ghost use Rattle.archive_num.specs.OwnerBytes.{owner_bytes};
-ghost use Rattle.archive_types.specs.Words.WrittenPointers.{IsTooFarFrom, PointsTo, IsNoPointer};
+ghost use Rattle.archive_types.specs.Words.WrittenPointers.{IsTooFarFrom, PointsTo};
 ghost use Rattle.archive_types.specs.Members.PlannedOwners.{one_planned, boxed_one_planned};
 ghost use Rattle.archive_types.specs.Plans.{Serialized};
 ghost use Rattle.archive_types.specs.Writing.{ZeroedPlace, Resolves, to_pointee, box_flat};
@@ -115,7 +115,10 @@ impl<T: PortablePointee> ArchivedBox<T> {
             (box_flat T.pointee (U.source_length value.now) resolver)) }
         ensures written { OnOk result (PointsTo place (has_length T.pointee) resolver
             (U.source_length value.now)) }
-        ensures refused { IfErr result (IsNoPointer place resolver (U.source_length value.now)) }
+        ensures unchanged { OnErr result (place.exit.0.now ≡ place.entry.bytes.now) }
+        ensures cause { IfErr result (λ e. ((e ≡ LengthTooLarge)
+            × (4294967295 < U.source_length value.now))
+            ⊎ IsTooFar e (distance place.entry.pos resolver)) }
     {
         let Place { bytes, pos, .. } = place;
         let metadata = value.archived_metadata()?;

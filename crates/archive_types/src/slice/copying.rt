@@ -3,9 +3,10 @@
 ghost use Rattle.std.specs.Prelude.{◌≡◌, ◌+◌, ◌*◌, ◌^◌, ◌++◌, ◌<◌, ◌≤◌, IfOk, OnOk, IfErr, IsOk, IsErrOf, IsTrue, IsFalse, length, take, Some};
 ghost use Rattle.archive_check.specs.WriterState.{KeepsKeys};
 ghost use Rattle.archive_types.specs.Copies.{each_bytes, copies_from, EachCopied, IsCopyRefused, IsWriteRefused, OwnsNothing, TakesCopy, copies_to};
+ghost use Rattle.archive_write.specs.Writes.{ExplainsWrite};
 ghost use Rattle.archive_write.specs.Written.{GoesOn};
 ghost use Rattle.archive_types.specs.Words.BulkCopies.{AddedAligned, CopiesInBulk};
-ghost use Rattle.archive_types.specs.Words.WrittenPointers.{BytesAdded, WriteRefused};
+ghost use Rattle.archive_types.specs.Words.WrittenPointers.{BytesAdded};
 ghost use Rattle.archive_types.specs.Outcomes.{WritesElements, CopiesElements};
 
 use crate::ser::run_fits;
@@ -39,8 +40,8 @@ fn write_piece<W: Writer, T: Copied>(
     ensures read { EachCopied T.CopiedAs.definitions T.CopiedAs.shape T.CopiedAs.layout.size
         T.copied_meaning T.copied_bytes values.now }
     ensures goes_on { GoesOn (W.state writer.old) (W.state writer.new) }
-    ensures refused { IfErr result (WriteRefused (length values.now * T.CopiedAs.layout.size)
-        W.position W.Keys writer) }
+    ensures refused { IfErr result (ExplainsWrite W.state writer W.position
+        (length values.now * T.CopiedAs.layout.size)) }
     ensures memory { IsErrOf result Error.OutOfMemory → IsTrue W.takes_memory }
     ensures keys { KeepsKeys (W.state writer.old).states (W.state writer.new).states }
 {

@@ -62,8 +62,8 @@ pub(crate) fn serialize_each<A: Allocator + Drop, S: Writer, T: Serialize<S>>(
 }
 
 // Writes what each of the values owns and then all of them as a region of its own, and answers the region's position. The region is that of an array of
-// them, too.
-#[inline(always)]
+// them, too. It isn't `inline(always)`: within what is copied in bulk it never runs, but would count for the limit above which the build drops that mark.
+#[inline]
 pub(crate) fn serialize_in_turn<S: Writer + ResolverAlloc, T: Serialize<S>>(
     values: &[T],
     serializer: &mut S,

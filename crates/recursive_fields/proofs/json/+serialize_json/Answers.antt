@@ -47,17 +47,17 @@ serialize_vec_json-returns-then-len-clause-refused g t c = (let long : 429496729
 pub serialize_vec_json-returns-in-Err-clause-refused : goal.serialize_vec_json-returns-in-Err-clause-refused
 serialize_vec_json-returns-in-Err-clause-refused g t c = vec_refused json_definitions json_shape (length c.args.value.now.items) (each_keys json_keys c.args.value.now.items) (list (each_meaning json_meaning c.args.value.now.items)) _ _ _ (run_owned json_definitions json_shape (length c.args.value.now.items) (each_keys json_keys c.args.value.now.items) (each_meaning json_meaning c.args.value.now.items) _ _ _ (rw c.as_slice-items.ensures.value at c.in-Err.ensures.refused))
 
-pub serialize_vec_json-returns-in-Ok-serialize_run_of_json-clause-serialized : goal.serialize_vec_json-returns-in-Ok-serialize_run_of_json-clause-serialized
-serialize_vec_json-returns-in-Ok-serialize_run_of_json-clause-serialized g t c = (rw c.as_slice-items.ensures.value at c.in-Ok-serialize_run_of_json.ensures.listed).since _ c.serialize_each_json.ensures.goes_on (rw c.as_slice-items.ensures.value at c.in-Ok.ensures.serialized)
+pub serialize_vec_json-returns-in-Ok-serialize_run-clause-serialized : goal.serialize_vec_json-returns-in-Ok-serialize_run-clause-serialized
+serialize_vec_json-returns-in-Ok-serialize_run-clause-serialized g t c = (rw c.as_slice-items.ensures.value at c.in-Ok-serialize_run.ensures.listed).since _ c.serialize_each_json.ensures.goes_on (rw c.as_slice-items.ensures.value at c.in-Ok.ensures.serialized)
 
-pub serialize_vec_json-returns-in-Ok-serialize_run_of_json-clause-goes_on : goal.serialize_vec_json-returns-in-Ok-serialize_run_of_json-clause-goes_on
-serialize_vec_json-returns-in-Ok-serialize_run_of_json-clause-goes_on g t c = (goes_both _ _ _ c.serialize_each_json.ensures.goes_on c.serialize_run_of_json.ensures.goes_on)
+pub serialize_vec_json-returns-in-Ok-serialize_run-clause-goes_on : goal.serialize_vec_json-returns-in-Ok-serialize_run-clause-goes_on
+serialize_vec_json-returns-in-Ok-serialize_run-clause-goes_on g t c = (goes_both _ _ _ c.serialize_each_json.ensures.goes_on c.serialize_run.ensures.goes_on)
 
-pub serialize_vec_json-returns-in-Err-serialize_run_of_json-clause-goes_on : goal.serialize_vec_json-returns-in-Err-serialize_run_of_json-clause-goes_on
-serialize_vec_json-returns-in-Err-serialize_run_of_json-clause-goes_on g t c = (goes_both _ _ _ c.serialize_each_json.ensures.goes_on c.serialize_run_of_json.ensures.goes_on)
+pub serialize_vec_json-returns-in-Err-serialize_run-clause-goes_on : goal.serialize_vec_json-returns-in-Err-serialize_run-clause-goes_on
+serialize_vec_json-returns-in-Err-serialize_run-clause-goes_on g t c = (goes_both _ _ _ c.serialize_each_json.ensures.goes_on c.serialize_run.ensures.goes_on)
 
-pub serialize_vec_json-returns-in-Err-serialize_run_of_json-clause-refused : goal.serialize_vec_json-returns-in-Err-serialize_run_of_json-clause-refused
-serialize_vec_json-returns-in-Err-serialize_run_of_json-clause-refused g t c = (rw c.as_slice-items.ensures.value at c.in-Err-serialize_run_of_json.ensures.refused).since _ c.serialize_each_json.ensures.goes_on (rw c.as_slice-items.ensures.value at c.in-Ok.ensures.serialized)
+pub serialize_vec_json-returns-in-Err-serialize_run-clause-refused : goal.serialize_vec_json-returns-in-Err-serialize_run-clause-refused
+serialize_vec_json-returns-in-Err-serialize_run-clause-refused g t c = (rw c.as_slice-items.ensures.value at c.in-Err-serialize_run.ensures.refused).since _ c.serialize_each_json.ensures.goes_on (rw c.as_slice-items.ensures.value at c.in-Ok.ensures.serialized)
 
 pub serialize_each_member_type-returns-in_err-resolvers-clause-refused : goal.serialize_each_member_type-returns-in_err-resolvers-clause-refused
 serialize_each_member_type-returns-in_err-resolvers-clause-refused g t c = err_by c.from_residual.result OutOfMemory _ c.from_residual.ensures.1 no_memory
@@ -83,17 +83,17 @@ serialize_vec_member_type-returns-then-len-clause-refused g t c = (let long : 42
 pub serialize_vec_member_type-returns-in-Err-clause-refused : goal.serialize_vec_member_type-returns-in-Err-clause-refused
 serialize_vec_member_type-returns-in-Err-clause-refused g t c = vec_refused json_definitions member_type_shape (length c.args.value.now.items) (each_keys member_type_keys c.args.value.now.items) (list (each_meaning member_type_meaning c.args.value.now.items)) _ _ _ (run_owned json_definitions member_type_shape (length c.args.value.now.items) (each_keys member_type_keys c.args.value.now.items) (each_meaning member_type_meaning c.args.value.now.items) _ _ _ (rw c.as_slice-items.ensures.value at c.in-Err.ensures.refused))
 
-pub serialize_vec_member_type-returns-in-Ok-serialize_run_of_json-clause-serialized : goal.serialize_vec_member_type-returns-in-Ok-serialize_run_of_json-clause-serialized
-serialize_vec_member_type-returns-in-Ok-serialize_run_of_json-clause-serialized g t c = (rw c.as_slice-items.ensures.value at c.in-Ok-serialize_run_of_json.ensures.listed).since _ c.serialize_each_member_type.ensures.goes_on (rw c.as_slice-items.ensures.value at c.in-Ok.ensures.serialized)
+pub serialize_vec_member_type-returns-in-Ok-serialize_run-clause-serialized : goal.serialize_vec_member_type-returns-in-Ok-serialize_run-clause-serialized
+serialize_vec_member_type-returns-in-Ok-serialize_run-clause-serialized g t c = (rw c.as_slice-items.ensures.value at c.in-Ok-serialize_run.ensures.listed).since _ c.serialize_each_member_type.ensures.goes_on (rw c.as_slice-items.ensures.value at c.in-Ok.ensures.serialized)
 
-pub serialize_vec_member_type-returns-in-Ok-serialize_run_of_json-clause-goes_on : goal.serialize_vec_member_type-returns-in-Ok-serialize_run_of_json-clause-goes_on
-serialize_vec_member_type-returns-in-Ok-serialize_run_of_json-clause-goes_on g t c = (goes_both _ _ _ c.serialize_each_member_type.ensures.goes_on c.serialize_run_of_json.ensures.goes_on)
+pub serialize_vec_member_type-returns-in-Ok-serialize_run-clause-goes_on : goal.serialize_vec_member_type-returns-in-Ok-serialize_run-clause-goes_on
+serialize_vec_member_type-returns-in-Ok-serialize_run-clause-goes_on g t c = (goes_both _ _ _ c.serialize_each_member_type.ensures.goes_on c.serialize_run.ensures.goes_on)
 
-pub serialize_vec_member_type-returns-in-Err-serialize_run_of_json-clause-goes_on : goal.serialize_vec_member_type-returns-in-Err-serialize_run_of_json-clause-goes_on
-serialize_vec_member_type-returns-in-Err-serialize_run_of_json-clause-goes_on g t c = (goes_both _ _ _ c.serialize_each_member_type.ensures.goes_on c.serialize_run_of_json.ensures.goes_on)
+pub serialize_vec_member_type-returns-in-Err-serialize_run-clause-goes_on : goal.serialize_vec_member_type-returns-in-Err-serialize_run-clause-goes_on
+serialize_vec_member_type-returns-in-Err-serialize_run-clause-goes_on g t c = (goes_both _ _ _ c.serialize_each_member_type.ensures.goes_on c.serialize_run.ensures.goes_on)
 
-pub serialize_vec_member_type-returns-in-Err-serialize_run_of_json-clause-refused : goal.serialize_vec_member_type-returns-in-Err-serialize_run_of_json-clause-refused
-serialize_vec_member_type-returns-in-Err-serialize_run_of_json-clause-refused g t c = (rw c.as_slice-items.ensures.value at c.in-Err-serialize_run_of_json.ensures.refused).since _ c.serialize_each_member_type.ensures.goes_on (rw c.as_slice-items.ensures.value at c.in-Ok.ensures.serialized)
+pub serialize_vec_member_type-returns-in-Err-serialize_run-clause-refused : goal.serialize_vec_member_type-returns-in-Err-serialize_run-clause-refused
+serialize_vec_member_type-returns-in-Err-serialize_run-clause-refused g t c = (rw c.as_slice-items.ensures.value at c.in-Err-serialize_run.ensures.refused).since _ c.serialize_each_member_type.ensures.goes_on (rw c.as_slice-items.ensures.value at c.in-Ok.ensures.serialized)
 
 pub serialize_json_list-returns-in-Err-clause-refused : goal.serialize_json_list-returns-in-Err-clause-refused
 serialize_json_list-returns-in-Err-clause-refused g t c = (variant_refused json_definitions json_shape json_name json_variant_definitions json_variants json_has_variants 3 json_list_parts refl json_list_definitions refl _ _ _ _ _ (first_refused json_definitions no_definition (vec json_shape) no_part (each_keys json_keys c.args.a0.now.items) [] (list (each_meaning json_meaning c.args.a0.now.items)) no_value _ _ _ no_part_planned c.in-Err.ensures.refused))

@@ -71,17 +71,17 @@ serialize_vec_tuple3_string_note_option_string-returns-then-len-clause-refused g
 pub serialize_vec_tuple3_string_note_option_string-returns-in-Err-clause-refused : goal.serialize_vec_tuple3_string_note_option_string-returns-in-Err-clause-refused
 serialize_vec_tuple3_string_note_option_string-returns-in-Err-clause-refused g t c = vec_refused tuple3_string_note_option_string_definitions tuple3_string_note_option_string_shape (length c.args.value.now.items) (each_keys (λ y. ([] ++ ((note_keys y.1) ++ ((option_keys (λ y. []) y.2) ++ [])))) c.args.value.now.items) (list (each_meaning (λ y. (product (value (text_value (string_bytes y.0)) (value (note_meaning y.1) (value (option_meaning (λ y. (text_value (string_bytes y))) y.2) no_value))))) c.args.value.now.items)) _ _ _ (run_owned tuple3_string_note_option_string_definitions tuple3_string_note_option_string_shape (length c.args.value.now.items) (each_keys (λ y. ([] ++ ((note_keys y.1) ++ ((option_keys (λ y. []) y.2) ++ [])))) c.args.value.now.items) (each_meaning (λ y. (product (value (text_value (string_bytes y.0)) (value (note_meaning y.1) (value (option_meaning (λ y. (text_value (string_bytes y))) y.2) no_value))))) c.args.value.now.items) _ _ _ (rw c.as_slice-items.ensures.value at c.in-Err.ensures.refused))
 
-pub serialize_vec_tuple3_string_note_option_string-returns-in-Ok-serialize_run_of_note-clause-serialized : goal.serialize_vec_tuple3_string_note_option_string-returns-in-Ok-serialize_run_of_note-clause-serialized
-serialize_vec_tuple3_string_note_option_string-returns-in-Ok-serialize_run_of_note-clause-serialized g t c = (rw c.as_slice-items.ensures.value at c.in-Ok-serialize_run_of_note.ensures.listed).since _ c.serialize_each_tuple3_string_note_option_string.ensures.goes_on (rw c.as_slice-items.ensures.value at c.in-Ok.ensures.serialized)
+pub serialize_vec_tuple3_string_note_option_string-returns-in-Ok-serialize_run-clause-serialized : goal.serialize_vec_tuple3_string_note_option_string-returns-in-Ok-serialize_run-clause-serialized
+serialize_vec_tuple3_string_note_option_string-returns-in-Ok-serialize_run-clause-serialized g t c = (rw c.as_slice-items.ensures.value at c.in-Ok-serialize_run.ensures.listed).since _ c.serialize_each_tuple3_string_note_option_string.ensures.goes_on (rw c.as_slice-items.ensures.value at c.in-Ok.ensures.serialized)
 
-pub serialize_vec_tuple3_string_note_option_string-returns-in-Ok-serialize_run_of_note-clause-goes_on : goal.serialize_vec_tuple3_string_note_option_string-returns-in-Ok-serialize_run_of_note-clause-goes_on
-serialize_vec_tuple3_string_note_option_string-returns-in-Ok-serialize_run_of_note-clause-goes_on g t c = (goes_both _ _ _ c.serialize_each_tuple3_string_note_option_string.ensures.goes_on c.serialize_run_of_note.ensures.goes_on)
+pub serialize_vec_tuple3_string_note_option_string-returns-in-Ok-serialize_run-clause-goes_on : goal.serialize_vec_tuple3_string_note_option_string-returns-in-Ok-serialize_run-clause-goes_on
+serialize_vec_tuple3_string_note_option_string-returns-in-Ok-serialize_run-clause-goes_on g t c = (goes_both _ _ _ c.serialize_each_tuple3_string_note_option_string.ensures.goes_on c.serialize_run.ensures.goes_on)
 
-pub serialize_vec_tuple3_string_note_option_string-returns-in-Err-serialize_run_of_note-clause-goes_on : goal.serialize_vec_tuple3_string_note_option_string-returns-in-Err-serialize_run_of_note-clause-goes_on
-serialize_vec_tuple3_string_note_option_string-returns-in-Err-serialize_run_of_note-clause-goes_on g t c = (goes_both _ _ _ c.serialize_each_tuple3_string_note_option_string.ensures.goes_on c.serialize_run_of_note.ensures.goes_on)
+pub serialize_vec_tuple3_string_note_option_string-returns-in-Err-serialize_run-clause-goes_on : goal.serialize_vec_tuple3_string_note_option_string-returns-in-Err-serialize_run-clause-goes_on
+serialize_vec_tuple3_string_note_option_string-returns-in-Err-serialize_run-clause-goes_on g t c = (goes_both _ _ _ c.serialize_each_tuple3_string_note_option_string.ensures.goes_on c.serialize_run.ensures.goes_on)
 
-pub serialize_vec_tuple3_string_note_option_string-returns-in-Err-serialize_run_of_note-clause-refused : goal.serialize_vec_tuple3_string_note_option_string-returns-in-Err-serialize_run_of_note-clause-refused
-serialize_vec_tuple3_string_note_option_string-returns-in-Err-serialize_run_of_note-clause-refused g t c = (rw c.as_slice-items.ensures.value at c.in-Err-serialize_run_of_note.ensures.refused).since _ c.serialize_each_tuple3_string_note_option_string.ensures.goes_on (rw c.as_slice-items.ensures.value at c.in-Ok.ensures.serialized)
+pub serialize_vec_tuple3_string_note_option_string-returns-in-Err-serialize_run-clause-refused : goal.serialize_vec_tuple3_string_note_option_string-returns-in-Err-serialize_run-clause-refused
+serialize_vec_tuple3_string_note_option_string-returns-in-Err-serialize_run-clause-refused g t c = (rw c.as_slice-items.ensures.value at c.in-Err-serialize_run.ensures.refused).since _ c.serialize_each_tuple3_string_note_option_string.ensures.goes_on (rw c.as_slice-items.ensures.value at c.in-Ok.ensures.serialized)
 
 pub serialize_note_table-returns-in-Err-clause-refused : goal.serialize_note_table-returns-in-Err-clause-refused
 serialize_note_table-returns-in-Err-clause-refused g t c = (variant_refused note_definitions note_shape note_name note_variant_definitions note_variants note_has_variants 2 note_table_parts refl note_table_definitions refl _ _ _ _ _ (first_refused tuple3_string_note_option_string_definitions no_definition (vec tuple3_string_note_option_string_shape) no_part (each_keys (λ y. ([] ++ ((note_keys y.1) ++ ((option_keys (λ y. []) y.2) ++ [])))) c.args.a0.now.items) [] (list (each_meaning (λ y. (product (value (text_value (string_bytes y.0)) (value (note_meaning y.1) (value (option_meaning (λ y. (text_value (string_bytes y))) y.2) no_value))))) c.args.a0.now.items)) no_value _ _ _ no_part_planned c.in-Err.ensures.refused))

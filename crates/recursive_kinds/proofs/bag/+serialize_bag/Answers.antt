@@ -34,17 +34,17 @@ serialize_option_box_bag-returns-in-None-clause-serialized g t c = rw c.in-None.
 pub serialize_option_box_bag-returns-in-Err-clause-refused : goal.serialize_option_box_bag-returns-in-Err-clause-refused
 serialize_option_box_bag-returns-in-Err-clause-refused g t c = rw c.handed_on.ensures (let same : c.deref-inner.result.now ≡ c.in-Some.whole.value = grind (arith, common_steps) in rw (c.in-Some.is, ← same) (case_refused bag_definitions bag_definitions (λ s k. k) _ _ 1 (boxed (one bag_shape)) refl _ _ _ _ _ (box_refused bag_definitions (one bag_shape) 0 _ _ _ _ _ (one_owned bag_definitions bag_shape _ _ _ _ _ c.in-Err.ensures.refused))))
 
-pub serialize_option_box_bag-returns-in-Ok-serialize_region_of_bag-clause-serialized : goal.serialize_option_box_bag-returns-in-Ok-serialize_region_of_bag-clause-serialized
-serialize_option_box_bag-returns-in-Ok-serialize_region_of_bag-clause-serialized g t c = (let same : c.deref-inner.result.now ≡ c.in-Some.whole.value = grind (arith, common_steps) in rw (c.in-Some.is, ← same) (serialized_case bag_definitions bag_definitions (λ s k. k) _ _ 1 (boxed (one bag_shape)) refl _ _ _ _ _ (c.in-Ok-serialize_region_of_bag.ensures.boxed.since _ c.serialize_bag.ensures.goes_on c.in-Ok.ensures.serialized)))
+pub serialize_option_box_bag-returns-in-Ok-serialize_inner-clause-serialized : goal.serialize_option_box_bag-returns-in-Ok-serialize_inner-clause-serialized
+serialize_option_box_bag-returns-in-Ok-serialize_inner-clause-serialized g t c = (let same : c.deref-inner.result.now ≡ c.in-Some.whole.value = grind (arith, common_steps) in rw (c.in-Some.is, ← same) (serialized_case bag_definitions bag_definitions (λ s k. k) _ _ 1 (boxed (one bag_shape)) refl _ _ _ _ _ (c.in-Ok-serialize_inner.ensures.boxed.since _ c.serialize_bag.ensures.goes_on c.in-Ok.ensures.serialized)))
 
-pub serialize_option_box_bag-returns-in-Ok-serialize_region_of_bag-clause-goes_on : goal.serialize_option_box_bag-returns-in-Ok-serialize_region_of_bag-clause-goes_on
-serialize_option_box_bag-returns-in-Ok-serialize_region_of_bag-clause-goes_on g t c = (goes_both _ _ _ c.serialize_bag.ensures.goes_on c.serialize_region_of_bag.ensures.goes_on)
+pub serialize_option_box_bag-returns-in-Ok-serialize_inner-clause-goes_on : goal.serialize_option_box_bag-returns-in-Ok-serialize_inner-clause-goes_on
+serialize_option_box_bag-returns-in-Ok-serialize_inner-clause-goes_on g t c = (goes_both _ _ _ c.serialize_bag.ensures.goes_on c.serialize_inner.ensures.goes_on)
 
-pub serialize_option_box_bag-returns-in-Err-serialize_region_of_bag-clause-goes_on : goal.serialize_option_box_bag-returns-in-Err-serialize_region_of_bag-clause-goes_on
-serialize_option_box_bag-returns-in-Err-serialize_region_of_bag-clause-goes_on g t c = (goes_both _ _ _ c.serialize_bag.ensures.goes_on c.serialize_region_of_bag.ensures.goes_on)
+pub serialize_option_box_bag-returns-in-Err-serialize_inner-clause-goes_on : goal.serialize_option_box_bag-returns-in-Err-serialize_inner-clause-goes_on
+serialize_option_box_bag-returns-in-Err-serialize_inner-clause-goes_on g t c = (goes_both _ _ _ c.serialize_bag.ensures.goes_on c.serialize_inner.ensures.goes_on)
 
-pub serialize_option_box_bag-returns-in-Err-serialize_region_of_bag-clause-refused : goal.serialize_option_box_bag-returns-in-Err-serialize_region_of_bag-clause-refused
-serialize_option_box_bag-returns-in-Err-serialize_region_of_bag-clause-refused g t c = (let same : c.deref-inner.result.now ≡ c.in-Some.whole.value = grind (arith, common_steps) in rw (c.in-Some.is, ← same) (case_refused bag_definitions bag_definitions (λ s k. k) _ _ 1 (boxed (one bag_shape)) refl _ _ _ _ _ (c.in-Err-serialize_region_of_bag.ensures.refused.since _ c.serialize_bag.ensures.goes_on c.in-Ok.ensures.serialized)))
+pub serialize_option_box_bag-returns-in-Err-serialize_inner-clause-refused : goal.serialize_option_box_bag-returns-in-Err-serialize_inner-clause-refused
+serialize_option_box_bag-returns-in-Err-serialize_inner-clause-refused g t c = (let same : c.deref-inner.result.now ≡ c.in-Some.whole.value = grind (arith, common_steps) in rw (c.in-Some.is, ← same) (case_refused bag_definitions bag_definitions (λ s k. k) _ _ 1 (boxed (one bag_shape)) refl _ _ _ _ _ (c.in-Err-serialize_inner.ensures.refused.since _ c.serialize_bag.ensures.goes_on c.in-Ok.ensures.serialized)))
 
 pub serialize_each_bag-returns-in_err-resolvers-clause-refused : goal.serialize_each_bag-returns-in_err-resolvers-clause-refused
 serialize_each_bag-returns-in_err-resolvers-clause-refused g t c = err_by c.from_residual.result OutOfMemory _ c.from_residual.ensures.1 no_memory

@@ -78,17 +78,17 @@ serialize_vec_shared_knot-returns-then-len-clause-refused g t c = (let long : 42
 pub serialize_vec_shared_knot-returns-in-Err-clause-refused : goal.serialize_vec_shared_knot-returns-in-Err-clause-refused
 serialize_vec_shared_knot-returns-in-Err-clause-refused g t c = vec_refused knot_definitions (shared rc_flavor (one knot_shape)) (length c.args.value.now.items) (each_keys (λ y. (rc_keys y.key (one knot_shape) 0 (knot_meaning y.value.value) (knot_keys y.value.value))) c.args.value.now.items) (list (each_meaning (λ y. (shared_value y.key)) c.args.value.now.items)) _ _ _ (run_owned knot_definitions (shared rc_flavor (one knot_shape)) (length c.args.value.now.items) (each_keys (λ y. (rc_keys y.key (one knot_shape) 0 (knot_meaning y.value.value) (knot_keys y.value.value))) c.args.value.now.items) (each_meaning (λ y. (shared_value y.key)) c.args.value.now.items) _ _ _ (rw c.as_slice-items.ensures.value at c.in-Err.ensures.refused))
 
-pub serialize_vec_shared_knot-returns-in-Ok-serialize_run_of_knot-clause-serialized : goal.serialize_vec_shared_knot-returns-in-Ok-serialize_run_of_knot-clause-serialized
-serialize_vec_shared_knot-returns-in-Ok-serialize_run_of_knot-clause-serialized g t c = (rw c.as_slice-items.ensures.value at c.in-Ok-serialize_run_of_knot.ensures.listed).since _ c.serialize_each_shared_knot.ensures.goes_on (rw c.as_slice-items.ensures.value at c.in-Ok.ensures.serialized)
+pub serialize_vec_shared_knot-returns-in-Ok-serialize_run-clause-serialized : goal.serialize_vec_shared_knot-returns-in-Ok-serialize_run-clause-serialized
+serialize_vec_shared_knot-returns-in-Ok-serialize_run-clause-serialized g t c = (rw c.as_slice-items.ensures.value at c.in-Ok-serialize_run.ensures.listed).since _ c.serialize_each_shared_knot.ensures.goes_on (rw c.as_slice-items.ensures.value at c.in-Ok.ensures.serialized)
 
-pub serialize_vec_shared_knot-returns-in-Ok-serialize_run_of_knot-clause-goes_on : goal.serialize_vec_shared_knot-returns-in-Ok-serialize_run_of_knot-clause-goes_on
-serialize_vec_shared_knot-returns-in-Ok-serialize_run_of_knot-clause-goes_on g t c = (goes_both _ _ _ c.serialize_each_shared_knot.ensures.goes_on c.serialize_run_of_knot.ensures.goes_on)
+pub serialize_vec_shared_knot-returns-in-Ok-serialize_run-clause-goes_on : goal.serialize_vec_shared_knot-returns-in-Ok-serialize_run-clause-goes_on
+serialize_vec_shared_knot-returns-in-Ok-serialize_run-clause-goes_on g t c = (goes_both _ _ _ c.serialize_each_shared_knot.ensures.goes_on c.serialize_run.ensures.goes_on)
 
-pub serialize_vec_shared_knot-returns-in-Err-serialize_run_of_knot-clause-goes_on : goal.serialize_vec_shared_knot-returns-in-Err-serialize_run_of_knot-clause-goes_on
-serialize_vec_shared_knot-returns-in-Err-serialize_run_of_knot-clause-goes_on g t c = (goes_both _ _ _ c.serialize_each_shared_knot.ensures.goes_on c.serialize_run_of_knot.ensures.goes_on)
+pub serialize_vec_shared_knot-returns-in-Err-serialize_run-clause-goes_on : goal.serialize_vec_shared_knot-returns-in-Err-serialize_run-clause-goes_on
+serialize_vec_shared_knot-returns-in-Err-serialize_run-clause-goes_on g t c = (goes_both _ _ _ c.serialize_each_shared_knot.ensures.goes_on c.serialize_run.ensures.goes_on)
 
-pub serialize_vec_shared_knot-returns-in-Err-serialize_run_of_knot-clause-refused : goal.serialize_vec_shared_knot-returns-in-Err-serialize_run_of_knot-clause-refused
-serialize_vec_shared_knot-returns-in-Err-serialize_run_of_knot-clause-refused g t c = (rw c.as_slice-items.ensures.value at c.in-Err-serialize_run_of_knot.ensures.refused).since _ c.serialize_each_shared_knot.ensures.goes_on (rw c.as_slice-items.ensures.value at c.in-Ok.ensures.serialized)
+pub serialize_vec_shared_knot-returns-in-Err-serialize_run-clause-refused : goal.serialize_vec_shared_knot-returns-in-Err-serialize_run-clause-refused
+serialize_vec_shared_knot-returns-in-Err-serialize_run-clause-refused g t c = (rw c.as_slice-items.ensures.value at c.in-Err-serialize_run.ensures.refused).since _ c.serialize_each_shared_knot.ensures.goes_on (rw c.as_slice-items.ensures.value at c.in-Ok.ensures.serialized)
 
 pub serialize_whole_knot-returns-in-Err-clause-refused : goal.serialize_whole_knot-returns-in-Err-clause-refused
 serialize_whole_knot-returns-in-Err-clause-refused g t c = (refused_as (knot_has_keys c.args.value.now) (knot_means c.args.value.now) (record_refused knot_definitions knot_shape knot_part_definitions knot_parts knot_has_parts _ _ _ _ _ (first_refused no_definition (both knot_definitions no_definition) (leaf (number_kind unsigned w32)) (part (vec (shared rc_flavor (one knot_shape))) no_part) [] ((each_keys (λ y. (rc_keys y.key (one knot_shape) 0 (knot_meaning y.value.value) (knot_keys y.value.value))) (out-Knot c.args.value.now).next.items) ++ []) (number (pos (out-Knot c.args.value.now).id)) (value (list (each_meaning (λ y. (shared_value y.key)) (out-Knot c.args.value.now).next.items)) no_value) _ _ _ (part_planned knot_definitions (vec (shared rc_flavor (one knot_shape))) (each_keys (λ y. (rc_keys y.key (one knot_shape) 0 (knot_meaning y.value.value) (knot_keys y.value.value))) (out-Knot c.args.value.now).next.items) (list (each_meaning (λ y. (shared_value y.key)) (out-Knot c.args.value.now).next.items)) (vec_planned knot_definitions (shared rc_flavor (one knot_shape)) _ _ _ (slice_planned knot_definitions (shared rc_flavor (one knot_shape)) (λ y. (rc_keys y.key (one knot_shape) 0 (knot_meaning y.value.value) (knot_keys y.value.value))) (λ y. (shared_value y.key)) (λ y. (rc_one_planned knot_definitions y.key (one knot_shape) knot_shape refl _ _ (knot_planned y.value.value))) (out-Knot c.args.value.now).next.items)) no_part_planned) c.in-Err.ensures.refused)))

@@ -78,17 +78,17 @@ serialize_whole_dir-returns-clause-goes_on g t c = (goes_both _ _ _ c.serialize_
 pub serialize_box_dir-returns-in-Err-clause-refused : goal.serialize_box_dir-returns-in-Err-clause-refused
 serialize_box_dir-returns-in-Err-clause-refused g t c = rw c.handed_on.ensures (let same : c.deref-inner.result.now ≡ c.args.value.now.value = grind (arith, common_steps) in rw (← same) (box_refused entry_definitions (one dir_shape) 0 _ _ _ _ _ (one_owned entry_definitions dir_shape _ _ _ _ _ c.in-Err.ensures.refused)))
 
-pub serialize_box_dir-returns-in-Ok-serialize_region_of_dir-clause-serialized : goal.serialize_box_dir-returns-in-Ok-serialize_region_of_dir-clause-serialized
-serialize_box_dir-returns-in-Ok-serialize_region_of_dir-clause-serialized g t c = (let same : c.deref-inner.result.now ≡ c.args.value.now.value = grind (arith, common_steps) in rw (← same) (c.in-Ok-serialize_region_of_dir.ensures.boxed.since _ c.serialize_dir.ensures.goes_on c.in-Ok.ensures.serialized))
+pub serialize_box_dir-returns-in-Ok-serialize_inner-clause-serialized : goal.serialize_box_dir-returns-in-Ok-serialize_inner-clause-serialized
+serialize_box_dir-returns-in-Ok-serialize_inner-clause-serialized g t c = (let same : c.deref-inner.result.now ≡ c.args.value.now.value = grind (arith, common_steps) in rw (← same) (c.in-Ok-serialize_inner.ensures.boxed.since _ c.serialize_dir.ensures.goes_on c.in-Ok.ensures.serialized))
 
-pub serialize_box_dir-returns-in-Ok-serialize_region_of_dir-clause-goes_on : goal.serialize_box_dir-returns-in-Ok-serialize_region_of_dir-clause-goes_on
-serialize_box_dir-returns-in-Ok-serialize_region_of_dir-clause-goes_on g t c = (goes_both _ _ _ c.serialize_dir.ensures.goes_on c.serialize_region_of_dir.ensures.goes_on)
+pub serialize_box_dir-returns-in-Ok-serialize_inner-clause-goes_on : goal.serialize_box_dir-returns-in-Ok-serialize_inner-clause-goes_on
+serialize_box_dir-returns-in-Ok-serialize_inner-clause-goes_on g t c = (goes_both _ _ _ c.serialize_dir.ensures.goes_on c.serialize_inner.ensures.goes_on)
 
-pub serialize_box_dir-returns-in-Err-serialize_region_of_dir-clause-goes_on : goal.serialize_box_dir-returns-in-Err-serialize_region_of_dir-clause-goes_on
-serialize_box_dir-returns-in-Err-serialize_region_of_dir-clause-goes_on g t c = (goes_both _ _ _ c.serialize_dir.ensures.goes_on c.serialize_region_of_dir.ensures.goes_on)
+pub serialize_box_dir-returns-in-Err-serialize_inner-clause-goes_on : goal.serialize_box_dir-returns-in-Err-serialize_inner-clause-goes_on
+serialize_box_dir-returns-in-Err-serialize_inner-clause-goes_on g t c = (goes_both _ _ _ c.serialize_dir.ensures.goes_on c.serialize_inner.ensures.goes_on)
 
-pub serialize_box_dir-returns-in-Err-serialize_region_of_dir-clause-refused : goal.serialize_box_dir-returns-in-Err-serialize_region_of_dir-clause-refused
-serialize_box_dir-returns-in-Err-serialize_region_of_dir-clause-refused g t c = (let same : c.deref-inner.result.now ≡ c.args.value.now.value = grind (arith, common_steps) in rw (← same) (c.in-Err-serialize_region_of_dir.ensures.refused.since _ c.serialize_dir.ensures.goes_on c.in-Ok.ensures.serialized))
+pub serialize_box_dir-returns-in-Err-serialize_inner-clause-refused : goal.serialize_box_dir-returns-in-Err-serialize_inner-clause-refused
+serialize_box_dir-returns-in-Err-serialize_inner-clause-refused g t c = (let same : c.deref-inner.result.now ≡ c.args.value.now.value = grind (arith, common_steps) in rw (← same) (c.in-Err-serialize_inner.ensures.refused.since _ c.serialize_dir.ensures.goes_on c.in-Ok.ensures.serialized))
 
 pub serialize_entry_sub-returns-in-Err-clause-refused : goal.serialize_entry_sub-returns-in-Err-clause-refused
 serialize_entry_sub-returns-in-Err-clause-refused g t c = (variant_refused entry_definitions entry_shape entry_name entry_variant_definitions entry_variants entry_has_variants 1 entry_sub_parts refl entry_sub_definitions refl _ _ _ _ _ (first_refused entry_definitions no_definition (boxed (one dir_shape)) no_part (dir_keys c.args.a0.now.value) [] (box (dir_meaning c.args.a0.now.value)) no_value _ _ _ no_part_planned c.in-Err.ensures.refused))

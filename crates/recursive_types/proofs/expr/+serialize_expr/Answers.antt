@@ -26,17 +26,17 @@ use Rattle.recursive_types.proofs.expr.+serialize_expr.Goals as goal
 pub serialize_box_expr-returns-in-Err-clause-refused : goal.serialize_box_expr-returns-in-Err-clause-refused
 serialize_box_expr-returns-in-Err-clause-refused g t c = rw c.handed_on.ensures (let same : c.deref-inner.result.now ≡ c.args.value.now.value = grind (arith, common_steps) in rw (← same) (box_refused expr_definitions (one expr_shape) 0 _ _ _ _ _ (one_owned expr_definitions expr_shape _ _ _ _ _ c.in-Err.ensures.refused)))
 
-pub serialize_box_expr-returns-in-Ok-serialize_region_of_expr-clause-serialized : goal.serialize_box_expr-returns-in-Ok-serialize_region_of_expr-clause-serialized
-serialize_box_expr-returns-in-Ok-serialize_region_of_expr-clause-serialized g t c = (let same : c.deref-inner.result.now ≡ c.args.value.now.value = grind (arith, common_steps) in rw (← same) (c.in-Ok-serialize_region_of_expr.ensures.boxed.since _ c.serialize_expr.ensures.goes_on c.in-Ok.ensures.serialized))
+pub serialize_box_expr-returns-in-Ok-serialize_inner-clause-serialized : goal.serialize_box_expr-returns-in-Ok-serialize_inner-clause-serialized
+serialize_box_expr-returns-in-Ok-serialize_inner-clause-serialized g t c = (let same : c.deref-inner.result.now ≡ c.args.value.now.value = grind (arith, common_steps) in rw (← same) (c.in-Ok-serialize_inner.ensures.boxed.since _ c.serialize_expr.ensures.goes_on c.in-Ok.ensures.serialized))
 
-pub serialize_box_expr-returns-in-Ok-serialize_region_of_expr-clause-goes_on : goal.serialize_box_expr-returns-in-Ok-serialize_region_of_expr-clause-goes_on
-serialize_box_expr-returns-in-Ok-serialize_region_of_expr-clause-goes_on g t c = (goes_both _ _ _ c.serialize_expr.ensures.goes_on c.serialize_region_of_expr.ensures.goes_on)
+pub serialize_box_expr-returns-in-Ok-serialize_inner-clause-goes_on : goal.serialize_box_expr-returns-in-Ok-serialize_inner-clause-goes_on
+serialize_box_expr-returns-in-Ok-serialize_inner-clause-goes_on g t c = (goes_both _ _ _ c.serialize_expr.ensures.goes_on c.serialize_inner.ensures.goes_on)
 
-pub serialize_box_expr-returns-in-Err-serialize_region_of_expr-clause-goes_on : goal.serialize_box_expr-returns-in-Err-serialize_region_of_expr-clause-goes_on
-serialize_box_expr-returns-in-Err-serialize_region_of_expr-clause-goes_on g t c = (goes_both _ _ _ c.serialize_expr.ensures.goes_on c.serialize_region_of_expr.ensures.goes_on)
+pub serialize_box_expr-returns-in-Err-serialize_inner-clause-goes_on : goal.serialize_box_expr-returns-in-Err-serialize_inner-clause-goes_on
+serialize_box_expr-returns-in-Err-serialize_inner-clause-goes_on g t c = (goes_both _ _ _ c.serialize_expr.ensures.goes_on c.serialize_inner.ensures.goes_on)
 
-pub serialize_box_expr-returns-in-Err-serialize_region_of_expr-clause-refused : goal.serialize_box_expr-returns-in-Err-serialize_region_of_expr-clause-refused
-serialize_box_expr-returns-in-Err-serialize_region_of_expr-clause-refused g t c = (let same : c.deref-inner.result.now ≡ c.args.value.now.value = grind (arith, common_steps) in rw (← same) (c.in-Err-serialize_region_of_expr.ensures.refused.since _ c.serialize_expr.ensures.goes_on c.in-Ok.ensures.serialized))
+pub serialize_box_expr-returns-in-Err-serialize_inner-clause-refused : goal.serialize_box_expr-returns-in-Err-serialize_inner-clause-refused
+serialize_box_expr-returns-in-Err-serialize_inner-clause-refused g t c = (let same : c.deref-inner.result.now ≡ c.args.value.now.value = grind (arith, common_steps) in rw (← same) (c.in-Err-serialize_inner.ensures.refused.since _ c.serialize_expr.ensures.goes_on c.in-Ok.ensures.serialized))
 
 pub serialize_each_expr-returns-in_err-resolvers-clause-refused : goal.serialize_each_expr-returns-in_err-resolvers-clause-refused
 serialize_each_expr-returns-in_err-resolvers-clause-refused g t c = err_by c.from_residual.result OutOfMemory _ c.from_residual.ensures.1 no_memory
@@ -62,17 +62,17 @@ serialize_vec_expr-returns-then-len-clause-refused g t c = (let long : 429496729
 pub serialize_vec_expr-returns-in-Err-clause-refused : goal.serialize_vec_expr-returns-in-Err-clause-refused
 serialize_vec_expr-returns-in-Err-clause-refused g t c = vec_refused expr_definitions expr_shape (length c.args.value.now.items) (each_keys expr_keys c.args.value.now.items) (list (each_meaning expr_meaning c.args.value.now.items)) _ _ _ (run_owned expr_definitions expr_shape (length c.args.value.now.items) (each_keys expr_keys c.args.value.now.items) (each_meaning expr_meaning c.args.value.now.items) _ _ _ (rw c.as_slice-items.ensures.value at c.in-Err.ensures.refused))
 
-pub serialize_vec_expr-returns-in-Ok-serialize_run_of_expr-clause-serialized : goal.serialize_vec_expr-returns-in-Ok-serialize_run_of_expr-clause-serialized
-serialize_vec_expr-returns-in-Ok-serialize_run_of_expr-clause-serialized g t c = (rw c.as_slice-items.ensures.value at c.in-Ok-serialize_run_of_expr.ensures.listed).since _ c.serialize_each_expr.ensures.goes_on (rw c.as_slice-items.ensures.value at c.in-Ok.ensures.serialized)
+pub serialize_vec_expr-returns-in-Ok-serialize_run-clause-serialized : goal.serialize_vec_expr-returns-in-Ok-serialize_run-clause-serialized
+serialize_vec_expr-returns-in-Ok-serialize_run-clause-serialized g t c = (rw c.as_slice-items.ensures.value at c.in-Ok-serialize_run.ensures.listed).since _ c.serialize_each_expr.ensures.goes_on (rw c.as_slice-items.ensures.value at c.in-Ok.ensures.serialized)
 
-pub serialize_vec_expr-returns-in-Ok-serialize_run_of_expr-clause-goes_on : goal.serialize_vec_expr-returns-in-Ok-serialize_run_of_expr-clause-goes_on
-serialize_vec_expr-returns-in-Ok-serialize_run_of_expr-clause-goes_on g t c = (goes_both _ _ _ c.serialize_each_expr.ensures.goes_on c.serialize_run_of_expr.ensures.goes_on)
+pub serialize_vec_expr-returns-in-Ok-serialize_run-clause-goes_on : goal.serialize_vec_expr-returns-in-Ok-serialize_run-clause-goes_on
+serialize_vec_expr-returns-in-Ok-serialize_run-clause-goes_on g t c = (goes_both _ _ _ c.serialize_each_expr.ensures.goes_on c.serialize_run.ensures.goes_on)
 
-pub serialize_vec_expr-returns-in-Err-serialize_run_of_expr-clause-goes_on : goal.serialize_vec_expr-returns-in-Err-serialize_run_of_expr-clause-goes_on
-serialize_vec_expr-returns-in-Err-serialize_run_of_expr-clause-goes_on g t c = (goes_both _ _ _ c.serialize_each_expr.ensures.goes_on c.serialize_run_of_expr.ensures.goes_on)
+pub serialize_vec_expr-returns-in-Err-serialize_run-clause-goes_on : goal.serialize_vec_expr-returns-in-Err-serialize_run-clause-goes_on
+serialize_vec_expr-returns-in-Err-serialize_run-clause-goes_on g t c = (goes_both _ _ _ c.serialize_each_expr.ensures.goes_on c.serialize_run.ensures.goes_on)
 
-pub serialize_vec_expr-returns-in-Err-serialize_run_of_expr-clause-refused : goal.serialize_vec_expr-returns-in-Err-serialize_run_of_expr-clause-refused
-serialize_vec_expr-returns-in-Err-serialize_run_of_expr-clause-refused g t c = (rw c.as_slice-items.ensures.value at c.in-Err-serialize_run_of_expr.ensures.refused).since _ c.serialize_each_expr.ensures.goes_on (rw c.as_slice-items.ensures.value at c.in-Ok.ensures.serialized)
+pub serialize_vec_expr-returns-in-Err-serialize_run-clause-refused : goal.serialize_vec_expr-returns-in-Err-serialize_run-clause-refused
+serialize_vec_expr-returns-in-Err-serialize_run-clause-refused g t c = (rw c.as_slice-items.ensures.value at c.in-Err-serialize_run.ensures.refused).since _ c.serialize_each_expr.ensures.goes_on (rw c.as_slice-items.ensures.value at c.in-Ok.ensures.serialized)
 
 pub serialize_expr_call-returns-in-Err-clause-refused : goal.serialize_expr_call-returns-in-Err-clause-refused
 serialize_expr_call-returns-in-Err-clause-refused g t c = (variant_refused expr_definitions expr_shape expr_name expr_variant_definitions expr_variants expr_has_variants 2 expr_call_parts refl expr_call_definitions refl _ _ _ _ _ (first_refused no_definition (both expr_definitions no_definition) str (part (vec expr_shape) no_part) [] ((each_keys expr_keys c.args.a1.now.items) ++ []) (text_value (string_bytes c.args.a0.now)) (value (list (each_meaning expr_meaning c.args.a1.now.items)) no_value) _ _ _ (part_planned expr_definitions (vec expr_shape) (each_keys expr_keys c.args.a1.now.items) (list (each_meaning expr_meaning c.args.a1.now.items)) (vec_planned expr_definitions expr_shape _ _ _ (slice_planned expr_definitions expr_shape expr_keys expr_meaning expr_planned c.args.a1.now.items)) no_part_planned) c.in-Err.ensures.refused))

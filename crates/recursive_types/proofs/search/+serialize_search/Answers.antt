@@ -28,17 +28,17 @@ serialize_option_box_search-returns-in-None-clause-serialized g t c = rw c.in-No
 pub serialize_option_box_search-returns-in-Err-clause-refused : goal.serialize_option_box_search-returns-in-Err-clause-refused
 serialize_option_box_search-returns-in-Err-clause-refused g t c = rw c.handed_on.ensures (let same : c.deref-inner.result.now ≡ c.in-Some.whole.value = grind (arith, common_steps) in rw (c.in-Some.is, ← same) (case_refused search_definitions search_definitions (λ s k. k) _ _ 1 (boxed (one search_shape)) refl _ _ _ _ _ (box_refused search_definitions (one search_shape) 0 _ _ _ _ _ (one_owned search_definitions search_shape _ _ _ _ _ c.in-Err.ensures.refused))))
 
-pub serialize_option_box_search-returns-in-Ok-serialize_region_of_search-clause-serialized : goal.serialize_option_box_search-returns-in-Ok-serialize_region_of_search-clause-serialized
-serialize_option_box_search-returns-in-Ok-serialize_region_of_search-clause-serialized g t c = (let same : c.deref-inner.result.now ≡ c.in-Some.whole.value = grind (arith, common_steps) in rw (c.in-Some.is, ← same) (serialized_case search_definitions search_definitions (λ s k. k) _ _ 1 (boxed (one search_shape)) refl _ _ _ _ _ (c.in-Ok-serialize_region_of_search.ensures.boxed.since _ c.serialize_search.ensures.goes_on c.in-Ok.ensures.serialized)))
+pub serialize_option_box_search-returns-in-Ok-serialize_inner-clause-serialized : goal.serialize_option_box_search-returns-in-Ok-serialize_inner-clause-serialized
+serialize_option_box_search-returns-in-Ok-serialize_inner-clause-serialized g t c = (let same : c.deref-inner.result.now ≡ c.in-Some.whole.value = grind (arith, common_steps) in rw (c.in-Some.is, ← same) (serialized_case search_definitions search_definitions (λ s k. k) _ _ 1 (boxed (one search_shape)) refl _ _ _ _ _ (c.in-Ok-serialize_inner.ensures.boxed.since _ c.serialize_search.ensures.goes_on c.in-Ok.ensures.serialized)))
 
-pub serialize_option_box_search-returns-in-Ok-serialize_region_of_search-clause-goes_on : goal.serialize_option_box_search-returns-in-Ok-serialize_region_of_search-clause-goes_on
-serialize_option_box_search-returns-in-Ok-serialize_region_of_search-clause-goes_on g t c = (goes_both _ _ _ c.serialize_search.ensures.goes_on c.serialize_region_of_search.ensures.goes_on)
+pub serialize_option_box_search-returns-in-Ok-serialize_inner-clause-goes_on : goal.serialize_option_box_search-returns-in-Ok-serialize_inner-clause-goes_on
+serialize_option_box_search-returns-in-Ok-serialize_inner-clause-goes_on g t c = (goes_both _ _ _ c.serialize_search.ensures.goes_on c.serialize_inner.ensures.goes_on)
 
-pub serialize_option_box_search-returns-in-Err-serialize_region_of_search-clause-goes_on : goal.serialize_option_box_search-returns-in-Err-serialize_region_of_search-clause-goes_on
-serialize_option_box_search-returns-in-Err-serialize_region_of_search-clause-goes_on g t c = (goes_both _ _ _ c.serialize_search.ensures.goes_on c.serialize_region_of_search.ensures.goes_on)
+pub serialize_option_box_search-returns-in-Err-serialize_inner-clause-goes_on : goal.serialize_option_box_search-returns-in-Err-serialize_inner-clause-goes_on
+serialize_option_box_search-returns-in-Err-serialize_inner-clause-goes_on g t c = (goes_both _ _ _ c.serialize_search.ensures.goes_on c.serialize_inner.ensures.goes_on)
 
-pub serialize_option_box_search-returns-in-Err-serialize_region_of_search-clause-refused : goal.serialize_option_box_search-returns-in-Err-serialize_region_of_search-clause-refused
-serialize_option_box_search-returns-in-Err-serialize_region_of_search-clause-refused g t c = (let same : c.deref-inner.result.now ≡ c.in-Some.whole.value = grind (arith, common_steps) in rw (c.in-Some.is, ← same) (case_refused search_definitions search_definitions (λ s k. k) _ _ 1 (boxed (one search_shape)) refl _ _ _ _ _ (c.in-Err-serialize_region_of_search.ensures.refused.since _ c.serialize_search.ensures.goes_on c.in-Ok.ensures.serialized)))
+pub serialize_option_box_search-returns-in-Err-serialize_inner-clause-refused : goal.serialize_option_box_search-returns-in-Err-serialize_inner-clause-refused
+serialize_option_box_search-returns-in-Err-serialize_inner-clause-refused g t c = (let same : c.deref-inner.result.now ≡ c.in-Some.whole.value = grind (arith, common_steps) in rw (c.in-Some.is, ← same) (case_refused search_definitions search_definitions (λ s k. k) _ _ 1 (boxed (one search_shape)) refl _ _ _ _ _ (c.in-Err-serialize_inner.ensures.refused.since _ c.serialize_search.ensures.goes_on c.in-Ok.ensures.serialized)))
 
 pub serialize_whole_search-returns-in-Err-clause-refused : goal.serialize_whole_search-returns-in-Err-clause-refused
 serialize_whole_search-returns-in-Err-clause-refused g t c = rw c.handed_on.ensures (refused_as (search_has_keys c.args.value.now) (search_means c.args.value.now) (record_refused search_definitions search_shape search_part_definitions search_parts search_has_parts _ _ _ _ _ (first_refused search_definitions (both no_definition (both search_definitions no_definition)) (option_shape (boxed (one search_shape))) (part (leaf (number_kind unsigned w32)) (part (option_shape (boxed (one search_shape))) no_part)) (option_keys (λ y. (search_keys y.value)) (out-Search c.args.value.now).left) ([] ++ ((option_keys (λ y. (search_keys y.value)) (out-Search c.args.value.now).right) ++ [])) (option_meaning (λ y. (box (search_meaning y.value))) (out-Search c.args.value.now).left) (value (number (pos (out-Search c.args.value.now).value)) (value (option_meaning (λ y. (box (search_meaning y.value))) (out-Search c.args.value.now).right) no_value)) _ _ _ (part_planned no_definition (leaf (number_kind unsigned w32)) [] (number (pos (out-Search c.args.value.now).value)) (leaf_planned no_definition _ _ [] _ refl) (part_planned search_definitions (option_shape (boxed (one search_shape))) (option_keys (λ y. (search_keys y.value)) (out-Search c.args.value.now).right) (option_meaning (λ y. (box (search_meaning y.value))) (out-Search c.args.value.now).right) (option_planned search_definitions (boxed (one search_shape)) (λ y. (search_keys y.value)) (λ y. (box (search_meaning y.value))) (λ y. (boxed_one_planned search_definitions (one search_shape) search_shape refl _ _ (search_planned y.value))) (out-Search c.args.value.now).right) no_part_planned)) c.in-Err.ensures.refused)))

@@ -46,17 +46,17 @@ serialize_vec_stmt-returns-then-len-clause-refused g t c = (let long : 429496729
 pub serialize_vec_stmt-returns-in-Err-clause-refused : goal.serialize_vec_stmt-returns-in-Err-clause-refused
 serialize_vec_stmt-returns-in-Err-clause-refused g t c = vec_refused stmt_definitions stmt_shape (length c.args.value.now.items) (each_keys stmt_keys c.args.value.now.items) (list (each_meaning stmt_meaning c.args.value.now.items)) _ _ _ (run_owned stmt_definitions stmt_shape (length c.args.value.now.items) (each_keys stmt_keys c.args.value.now.items) (each_meaning stmt_meaning c.args.value.now.items) _ _ _ (rw c.as_slice-items.ensures.value at c.in-Err.ensures.refused))
 
-pub serialize_vec_stmt-returns-in-Ok-serialize_run_of_stmt-clause-serialized : goal.serialize_vec_stmt-returns-in-Ok-serialize_run_of_stmt-clause-serialized
-serialize_vec_stmt-returns-in-Ok-serialize_run_of_stmt-clause-serialized g t c = (rw c.as_slice-items.ensures.value at c.in-Ok-serialize_run_of_stmt.ensures.listed).since _ c.serialize_each_stmt.ensures.goes_on (rw c.as_slice-items.ensures.value at c.in-Ok.ensures.serialized)
+pub serialize_vec_stmt-returns-in-Ok-serialize_run-clause-serialized : goal.serialize_vec_stmt-returns-in-Ok-serialize_run-clause-serialized
+serialize_vec_stmt-returns-in-Ok-serialize_run-clause-serialized g t c = (rw c.as_slice-items.ensures.value at c.in-Ok-serialize_run.ensures.listed).since _ c.serialize_each_stmt.ensures.goes_on (rw c.as_slice-items.ensures.value at c.in-Ok.ensures.serialized)
 
-pub serialize_vec_stmt-returns-in-Ok-serialize_run_of_stmt-clause-goes_on : goal.serialize_vec_stmt-returns-in-Ok-serialize_run_of_stmt-clause-goes_on
-serialize_vec_stmt-returns-in-Ok-serialize_run_of_stmt-clause-goes_on g t c = (goes_both _ _ _ c.serialize_each_stmt.ensures.goes_on c.serialize_run_of_stmt.ensures.goes_on)
+pub serialize_vec_stmt-returns-in-Ok-serialize_run-clause-goes_on : goal.serialize_vec_stmt-returns-in-Ok-serialize_run-clause-goes_on
+serialize_vec_stmt-returns-in-Ok-serialize_run-clause-goes_on g t c = (goes_both _ _ _ c.serialize_each_stmt.ensures.goes_on c.serialize_run.ensures.goes_on)
 
-pub serialize_vec_stmt-returns-in-Err-serialize_run_of_stmt-clause-goes_on : goal.serialize_vec_stmt-returns-in-Err-serialize_run_of_stmt-clause-goes_on
-serialize_vec_stmt-returns-in-Err-serialize_run_of_stmt-clause-goes_on g t c = (goes_both _ _ _ c.serialize_each_stmt.ensures.goes_on c.serialize_run_of_stmt.ensures.goes_on)
+pub serialize_vec_stmt-returns-in-Err-serialize_run-clause-goes_on : goal.serialize_vec_stmt-returns-in-Err-serialize_run-clause-goes_on
+serialize_vec_stmt-returns-in-Err-serialize_run-clause-goes_on g t c = (goes_both _ _ _ c.serialize_each_stmt.ensures.goes_on c.serialize_run.ensures.goes_on)
 
-pub serialize_vec_stmt-returns-in-Err-serialize_run_of_stmt-clause-refused : goal.serialize_vec_stmt-returns-in-Err-serialize_run_of_stmt-clause-refused
-serialize_vec_stmt-returns-in-Err-serialize_run_of_stmt-clause-refused g t c = (rw c.as_slice-items.ensures.value at c.in-Err-serialize_run_of_stmt.ensures.refused).since _ c.serialize_each_stmt.ensures.goes_on (rw c.as_slice-items.ensures.value at c.in-Ok.ensures.serialized)
+pub serialize_vec_stmt-returns-in-Err-serialize_run-clause-refused : goal.serialize_vec_stmt-returns-in-Err-serialize_run-clause-refused
+serialize_vec_stmt-returns-in-Err-serialize_run-clause-refused g t c = (rw c.as_slice-items.ensures.value at c.in-Err-serialize_run.ensures.refused).since _ c.serialize_each_stmt.ensures.goes_on (rw c.as_slice-items.ensures.value at c.in-Ok.ensures.serialized)
 
 pub serialize_stmt_block-returns-in-Err-clause-refused : goal.serialize_stmt_block-returns-in-Err-clause-refused
 serialize_stmt_block-returns-in-Err-clause-refused g t c = (variant_refused stmt_definitions stmt_shape stmt_name stmt_variant_definitions stmt_variants stmt_has_variants 1 stmt_block_parts refl stmt_block_definitions refl _ _ _ _ _ (first_refused stmt_definitions no_definition (vec stmt_shape) no_part (each_keys stmt_keys c.args.a0.now.items) [] (list (each_meaning stmt_meaning c.args.a0.now.items)) no_value _ _ _ no_part_planned c.in-Err.ensures.refused))

@@ -16,7 +16,7 @@ invariant_of-self-then-is_some g c =
 
 pub invariant_of-self-in-Some : goal.invariant_of-self-in-Some
 invariant_of-self-in-Some g c =
-    let written = c.get_mut.follows.holds (Some c.args.position) in
+    let written = c.get_mut.follows.holds (Some c.args.number) in
     let updates = written.3 (ap is_some (sym c.in-Some.ensures.value)) in
     let pending = sym c.in-Some.ensures.value ∙ ap Some (pending_of c.in-Some.state.now (sym c.is_some.ensures ∙ c.if-is_some.false)) in
-    record { recalls = finished_set c.args.self.now.repeats.slots (get nat_eq c.args.self.now.states) (get nat_eq (c.get_mut.follows.lender (Some c.args.position))) c.args.key (Some (Some c.args.position)) pending updates.0 c.args.self.now.recalls }
+    record { recalls = finished_set c.args.self.now.repeats.slots (get nat_eq c.args.self.now.states) (get nat_eq (c.get_mut.follows.lender (Some c.args.number))) c.args.key (Some (Some c.args.number)) pending updates.0 c.args.self.now.recalls }

@@ -1,5 +1,4 @@
-use Rattle.std.proofs.Common.{nat_eq, BuildHasherDefault, FoldHasher}
-use Rattle.std.specs.HashMap.{get}
+use Rattle.std.proofs.Common.{BuildHasherDefault, FoldHasher}
 use Rattle.archive_write.proofs.FinishedKeys.{finished_inserted}
 use Rattle.archive_write.proofs.known.KnownKeys.start.Goals as goal
 

@@ -1,4 +1,4 @@
-use Rattle.std.proofs.Common.{sym, ap, subst, inl, inr}
+use Rattle.std.proofs.Common.{sym, ap, subst}
 use Rattle.archive_check.specs.Slots.{SlotsSayNoMore}
 use Rattle.archive_write.specs.declared.repeats.Repeats.{Repeats}
 use Rattle.archive_write.proofs.FinishedKeys.{besides_no_more}

@@ -1,5 +1,5 @@
 use Rattle.std.proofs.Common.{rules}
-use Rattle.archive_types.proofs.array.bytes.ArrayU8Deserialize.deserialize_part.Goals as goal
+use Rattle.archive_types.proofs.array.numbers.ArrayBoolDeserialize.deserialize_part.Goals as goal
 
 pub returns-in-Ok : goal.returns-in-Ok
 returns-in-Ok g c = rw (c.into_array.ensures) record {
