@@ -86,7 +86,7 @@ pub trait Pooling<T: Pooled>: Entries {
     /// Errors:
     /// - `NotStarted`: the position is unknown.
     /// - `AlreadyFinished`: it is finished.
-    /// - `OutOfMemory`: memory is refused.
+    /// - `OutOfMemory`: memory is refused, whatever the position is.
     fn finish_pooling(&mut self, pos: usize, value: T) -> Result<(), Error>
         ensures answer { Self.keeps ≡ true → IsFinishAnswer (Self.entry_of self.old pos) result }
         ensures after { Self.keeps ≡ true → OnOk result

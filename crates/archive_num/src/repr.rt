@@ -17,7 +17,7 @@ pub const OUT_OF_LINE_CAPACITY: usize = 1_073_741_823;
 // Writes at most eight bytes over the first ones of eight. No call of the C library is made for so few: its first and its last four are copied, or two, which
 // may overlap.
 #[inline(always)]
-fn copy_front(text: &[u8], out: &mut [u8])
+fn copy_short(text: &[u8], out: &mut [u8])
     requires short { length text.now ≤ 8 }
     requires sized { length out.old ≡ 8 }
     ensures { out.new ≡ text.now ++ drop (length text.now) out.old }
@@ -47,7 +47,7 @@ pub fn emplace_inline(value: &str, out: &mut [u8])
     ensures { out.new ≡ inline_bytes value.now }
 {
     out.copy_from_slice(&[0xff; 8]);
-    copy_front(value.as_bytes(), out);
+    copy_short(value.as_bytes(), out);
 }
 
 // The first four bytes of a string whose text stands elsewhere, as a number.

@@ -79,7 +79,8 @@ impl<A: Allocator + Clone> KnownKeys<A> {
         state
     }
 
-    /// Starts an unknown key, and returns whether there was memory for it.
+    /// Starts a key, and returns whether there was memory for it. The caller must ensure that the
+    /// key is unknown.
     pub fn start(&mut self, key: u64) -> bool
         requires { get nat_eq self.old.states key ≡ None }
         ensures started { IsTrue result → IsStarted (get nat_eq self.old.states) key

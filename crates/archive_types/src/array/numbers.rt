@@ -12,7 +12,8 @@ use crate::view::RawView;
 use archive_check::format::error::Error;
 use std::alloc::Global;
 
-/// As in rkyv 0.8.18.
+/// As in rkyv 0.8.18. They are read as an `OwnedArray` first, which takes memory: fails with
+/// `OutOfMemory` if that is refused.
 impl<D: Entries, const N: usize> Deserialize<[u8; N], D> for [u8; N] {
     #[inline(always)]
     fn deserialize_part(
@@ -31,6 +32,7 @@ impl<D: Entries, const N: usize> Deserialize<[u8; N], D> for [u8; N] {
         }
     }
 
+    // None, as of other arrays.
     #[inline(always)]
     fn deserialize_first(
         _alloc: Global,
@@ -42,7 +44,8 @@ impl<D: Entries, const N: usize> Deserialize<[u8; N], D> for [u8; N] {
     ) {}
 }
 
-/// As in rkyv 0.8.18.
+/// As in rkyv 0.8.18. They are read as an `OwnedArray` first, which takes memory: fails with
+/// `OutOfMemory` if that is refused.
 impl<D: Entries, const N: usize> Deserialize<[u16; N], D> for [ArchivedU16; N] {
     #[inline(always)]
     fn deserialize_part(
@@ -61,6 +64,7 @@ impl<D: Entries, const N: usize> Deserialize<[u16; N], D> for [ArchivedU16; N] {
         }
     }
 
+    // None, as of other arrays.
     #[inline(always)]
     fn deserialize_first(
         _alloc: Global,
@@ -72,7 +76,8 @@ impl<D: Entries, const N: usize> Deserialize<[u16; N], D> for [ArchivedU16; N] {
     ) {}
 }
 
-/// As in rkyv 0.8.18.
+/// As in rkyv 0.8.18. They are read as an `OwnedArray` first, which takes memory: fails with
+/// `OutOfMemory` if that is refused.
 impl<D: Entries, const N: usize> Deserialize<[u32; N], D> for [ArchivedU32; N] {
     #[inline(always)]
     fn deserialize_part(
@@ -91,6 +96,7 @@ impl<D: Entries, const N: usize> Deserialize<[u32; N], D> for [ArchivedU32; N] {
         }
     }
 
+    // None, as of other arrays.
     #[inline(always)]
     fn deserialize_first(
         _alloc: Global,
@@ -102,7 +108,8 @@ impl<D: Entries, const N: usize> Deserialize<[u32; N], D> for [ArchivedU32; N] {
     ) {}
 }
 
-/// As in rkyv 0.8.18.
+/// As in rkyv 0.8.18. They are read as an `OwnedArray` first, which takes memory: fails with
+/// `OutOfMemory` if that is refused.
 impl<D: Entries, const N: usize> Deserialize<[u64; N], D> for [ArchivedU64; N] {
     #[inline(always)]
     fn deserialize_part(
@@ -121,6 +128,7 @@ impl<D: Entries, const N: usize> Deserialize<[u64; N], D> for [ArchivedU64; N] {
         }
     }
 
+    // None, as of other arrays.
     #[inline(always)]
     fn deserialize_first(
         _alloc: Global,
@@ -132,7 +140,8 @@ impl<D: Entries, const N: usize> Deserialize<[u64; N], D> for [ArchivedU64; N] {
     ) {}
 }
 
-/// As in rkyv 0.8.18.
+/// As in rkyv 0.8.18. They are read as an `OwnedArray` first, which takes memory: fails with
+/// `OutOfMemory` if that is refused.
 impl<D: Entries, const N: usize> Deserialize<[u128; N], D> for [ArchivedU128; N] {
     #[inline(always)]
     fn deserialize_part(
@@ -151,6 +160,7 @@ impl<D: Entries, const N: usize> Deserialize<[u128; N], D> for [ArchivedU128; N]
         }
     }
 
+    // None, as of other arrays.
     #[inline(always)]
     fn deserialize_first(
         _alloc: Global,
@@ -162,7 +172,8 @@ impl<D: Entries, const N: usize> Deserialize<[u128; N], D> for [ArchivedU128; N]
     ) {}
 }
 
-/// As in rkyv 0.8.18.
+/// As in rkyv 0.8.18. They are read as an `OwnedArray` first, which takes memory: fails with
+/// `OutOfMemory` if that is refused.
 impl<D: Entries, const N: usize> Deserialize<[i8; N], D> for [i8; N] {
     #[inline(always)]
     fn deserialize_part(
@@ -181,6 +192,7 @@ impl<D: Entries, const N: usize> Deserialize<[i8; N], D> for [i8; N] {
         }
     }
 
+    // None, as of other arrays.
     #[inline(always)]
     fn deserialize_first(
         _alloc: Global,
@@ -192,7 +204,8 @@ impl<D: Entries, const N: usize> Deserialize<[i8; N], D> for [i8; N] {
     ) {}
 }
 
-/// As in rkyv 0.8.18.
+/// As in rkyv 0.8.18. They are read as an `OwnedArray` first, which takes memory: fails with
+/// `OutOfMemory` if that is refused.
 impl<D: Entries, const N: usize> Deserialize<[i16; N], D> for [ArchivedI16; N] {
     #[inline(always)]
     fn deserialize_part(
@@ -211,6 +224,7 @@ impl<D: Entries, const N: usize> Deserialize<[i16; N], D> for [ArchivedI16; N] {
         }
     }
 
+    // None, as of other arrays.
     #[inline(always)]
     fn deserialize_first(
         _alloc: Global,
@@ -222,7 +236,8 @@ impl<D: Entries, const N: usize> Deserialize<[i16; N], D> for [ArchivedI16; N] {
     ) {}
 }
 
-/// As in rkyv 0.8.18.
+/// As in rkyv 0.8.18. They are read as an `OwnedArray` first, which takes memory: fails with
+/// `OutOfMemory` if that is refused.
 impl<D: Entries, const N: usize> Deserialize<[i32; N], D> for [ArchivedI32; N] {
     #[inline(always)]
     fn deserialize_part(
@@ -241,6 +256,7 @@ impl<D: Entries, const N: usize> Deserialize<[i32; N], D> for [ArchivedI32; N] {
         }
     }
 
+    // None, as of other arrays.
     #[inline(always)]
     fn deserialize_first(
         _alloc: Global,
@@ -252,7 +268,8 @@ impl<D: Entries, const N: usize> Deserialize<[i32; N], D> for [ArchivedI32; N] {
     ) {}
 }
 
-/// As in rkyv 0.8.18.
+/// As in rkyv 0.8.18. They are read as an `OwnedArray` first, which takes memory: fails with
+/// `OutOfMemory` if that is refused.
 impl<D: Entries, const N: usize> Deserialize<[i64; N], D> for [ArchivedI64; N] {
     #[inline(always)]
     fn deserialize_part(
@@ -271,6 +288,7 @@ impl<D: Entries, const N: usize> Deserialize<[i64; N], D> for [ArchivedI64; N] {
         }
     }
 
+    // None, as of other arrays.
     #[inline(always)]
     fn deserialize_first(
         _alloc: Global,
@@ -282,7 +300,8 @@ impl<D: Entries, const N: usize> Deserialize<[i64; N], D> for [ArchivedI64; N] {
     ) {}
 }
 
-/// As in rkyv 0.8.18.
+/// As in rkyv 0.8.18. They are read as an `OwnedArray` first, which takes memory: fails with
+/// `OutOfMemory` if that is refused.
 impl<D: Entries, const N: usize> Deserialize<[i128; N], D> for [ArchivedI128; N] {
     #[inline(always)]
     fn deserialize_part(
@@ -301,6 +320,7 @@ impl<D: Entries, const N: usize> Deserialize<[i128; N], D> for [ArchivedI128; N]
         }
     }
 
+    // None, as of other arrays.
     #[inline(always)]
     fn deserialize_first(
         _alloc: Global,
@@ -312,7 +332,8 @@ impl<D: Entries, const N: usize> Deserialize<[i128; N], D> for [ArchivedI128; N]
     ) {}
 }
 
-/// As in rkyv 0.8.18.
+/// As in rkyv 0.8.18. They are read as an `OwnedArray` first, which takes memory: fails with
+/// `OutOfMemory` if that is refused.
 impl<D: Entries, const N: usize> Deserialize<[bool; N], D> for [bool; N] {
     #[inline(always)]
     fn deserialize_part(
@@ -331,6 +352,7 @@ impl<D: Entries, const N: usize> Deserialize<[bool; N], D> for [bool; N] {
         }
     }
 
+    // None, as of other arrays.
     #[inline(always)]
     fn deserialize_first(
         _alloc: Global,
@@ -342,7 +364,8 @@ impl<D: Entries, const N: usize> Deserialize<[bool; N], D> for [bool; N] {
     ) {}
 }
 
-/// As in rkyv 0.8.18.
+/// As in rkyv 0.8.18. They are read as an `OwnedArray` first, which takes memory: fails with
+/// `OutOfMemory` if that is refused.
 impl<D: Entries, const N: usize> Deserialize<[char; N], D> for [ArchivedChar; N] {
     #[inline(always)]
     fn deserialize_part(
@@ -361,6 +384,7 @@ impl<D: Entries, const N: usize> Deserialize<[char; N], D> for [ArchivedChar; N]
         }
     }
 
+    // None, as of other arrays.
     #[inline(always)]
     fn deserialize_first(
         _alloc: Global,
@@ -372,7 +396,8 @@ impl<D: Entries, const N: usize> Deserialize<[char; N], D> for [ArchivedChar; N]
     ) {}
 }
 
-/// As in rkyv 0.8.18.
+/// As in rkyv 0.8.18. They are read as an `OwnedArray` first, which takes memory: fails with
+/// `OutOfMemory` if that is refused.
 impl<D: Entries, const N: usize> Deserialize<[usize; N], D> for [ArchivedUsize; N] {
     #[inline(always)]
     fn deserialize_part(
@@ -391,6 +416,7 @@ impl<D: Entries, const N: usize> Deserialize<[usize; N], D> for [ArchivedUsize; 
         }
     }
 
+    // None, as of other arrays.
     #[inline(always)]
     fn deserialize_first(
         _alloc: Global,
@@ -402,7 +428,8 @@ impl<D: Entries, const N: usize> Deserialize<[usize; N], D> for [ArchivedUsize; 
     ) {}
 }
 
-/// As in rkyv 0.8.18.
+/// As in rkyv 0.8.18. They are read as an `OwnedArray` first, which takes memory: fails with
+/// `OutOfMemory` if that is refused.
 impl<D: Entries, const N: usize> Deserialize<[isize; N], D> for [ArchivedIsize; N] {
     #[inline(always)]
     fn deserialize_part(
@@ -421,6 +448,7 @@ impl<D: Entries, const N: usize> Deserialize<[isize; N], D> for [ArchivedIsize; 
         }
     }
 
+    // None, as of other arrays.
     #[inline(always)]
     fn deserialize_first(
         _alloc: Global,
