@@ -1,12 +1,12 @@
 //! Pools: shared values that are read back once for each position, and handed out at each pointer. The position is unknown, then pending while its
 //! value is read, then finished with the value.
 
-ghost use Rattle.std.specs.Prelude.{◌≡◌, ◌⊎◌, ◌≤◌, ℕ, true, false, refl, None, Some, is_some, Err, IfOk, OnOk, IfErr, OnErr, IsOk, nat_eq};
-ghost use Rattle.std.specs.HashMap.{get, spare};
+ghost use Rattle.std.specs.Prelude.{◌≡◌, ◌⊎◌, ◌≤◌, ℕ, true, false, refl, None, Some, is_some, Err, IfOk, OnOk, IfErr, OnErr, IsOk};
 ghost use Rattle.std.proofs.Common.{true≢false};
 ghost use Rattle.archive_check.specs.Entries.{NoEntries, KeepsEntries};
 ghost use Rattle.archive_check.specs.Pooled.{Kept, pooled};
 ghost use Rattle.archive_check.specs.declared.format.error.Error.TheVariants.{OutOfMemory};
+ghost use Rattle.archive_write.specs.Known.{key_states, spare_of};
 ghost use Rattle.archive_core.specs.Pooling.{known_by, value_by, AreIndexed, IsPoolAnswer, IsSame, Spans, IsFinishAnswer};
 ghost use Rattle.archive_core.specs.KeptValues.{kept_value};
 ghost use Rattle.archive_core.specs.SharedSeen.{ReadsKept, HandsOut, SaysShown, RefusesKept, PutAt};
@@ -151,7 +151,7 @@ pub struct Pool<T> {
     // A finished position has the index of its value.
     positions: KnownKeys,
     finished: Vec<T>,
-    ghost indexed: { AreIndexed finished.items (get nat_eq positions.states) },
+    ghost indexed: { AreIndexed finished.items (key_states positions) },
 }
 
 impl<T: Pooled> Pool<T> {
@@ -169,7 +169,7 @@ impl<T: Pooled> Pool<T> {
     /// memory from `alloc` is refused.
     pub fn with_capacity(alloc: Global, capacity: usize) -> Result<Pool<T>, Error>
         ensures fresh { IfOk result (λ p. NoEntries (⟦<Pool<T> as Entries>⟧.entry_of p)) }
-        ensures room { IfOk result (λ p. capacity ≤ spare p.positions.states) }
+        ensures room { IfOk result (λ p. capacity ≤ spare_of p.positions) }
         ensures refusal { IfErr result (λ e. e ≡ OutOfMemory) }
     {
         Ok(Pool {
@@ -189,7 +189,7 @@ impl<T: Pooled> Pool<T> {
 
 impl<T: Pooled> Entries for Pool<T> {
     ghost entry_of = { λ p t. known_by T.kept (value_by p.finished.items
-        (get nat_eq p.positions.states t)) };
+        (key_states p.positions t)) };
 
     ghost keeps = { true };
 

@@ -1,15 +1,34 @@
--- The states of keys in a map that is made with the first key.
-use Rattle.std.specs.Prelude.{ℕ, Option, Some, None, Box, nat_eq}
+-- The states of keys: that of the first one lies beside a map of the others.
+use Rattle.std.specs.Prelude.{ℕ, cond, Option, Some, None, Box, nat_eq}
 use Rattle.std.specs.HashMap.{get, spare}
-use Rattle.archive_check.specs.WriterState.{KeyStates, no_keys}
+use Rattle.archive_check.specs.WriterState.{KeyState, KeyStates, no_keys}
+use Rattle.archive_write.specs.declared.known.FirstKey.{FirstKey}
 use Rattle.archive_write.specs.declared.known.KnownKeys.{KnownKeys}
 
--- The states that it keeps; none where there is no map.
+-- The state of a key, where it is the first one.
+abbrev pub first_state : Option FirstKey → KeyStates
+first_state None key = None
+first_state (Some first) key = cond (nat_eq first.key key) (Some first.state) None
+
+-- This state, or the other one of a key that has none here.
+abbrev pub or_else : KeyState → KeyState → KeyState
+or_else None other = other
+or_else (Some state) other = Some state
+
+-- The states of all keys.
+abbrev pub key_states : {A : Type 0} → KnownKeys A → KeyStates
+key_states known key = or_else (first_state known.first key) (get nat_eq known.others.states key)
+
+-- How many keys there is room for without more memory.
+abbrev pub spare_of : {A : Type 0} → KnownKeys A → ℕ
+spare_of known = spare known.others.states
+
+-- The states that are kept; none where nothing is kept yet.
 abbrev pub known_keys : {A B : Type 0} → Option (Box (KnownKeys A) B) → KeyStates
 known_keys None = no_keys
-known_keys (Some states) = get nat_eq states.value.states
+known_keys (Some known) = key_states known.value
 
 -- How many keys it takes without more memory.
 abbrev pub spare_keys : {A B : Type 0} → Option (Box (KnownKeys A) B) → ℕ
 spare_keys None = 0
-spare_keys (Some states) = spare states.value.states
+spare_keys (Some known) = spare_of known.value

@@ -1,115 +1,122 @@
-//! The keys that are known: a map of their states, and slots for finished ones that are found again. Those of a pool are positions.
+//! The keys that are known. The first one lies beside the map of the others, since many archives share one value. Those of a pool are positions.
 
-ghost use Rattle.std.specs.Prelude.{◌≡◌, ◌+◌, ◌≤◌, ◌<◌, None, Some, OnOk, OnErr, IfOk, IsTrue, IsFalse, is_some, nat_eq};
-ghost use Rattle.std.specs.HashMap.{get, spare};
+ghost use Rattle.std.specs.Prelude.{◌≡◌, ◌+◌, ◌≤◌, ◌<◌, None, Some, OnOk, OnErr, IfOk, IsTrue, IsFalse, is_some};
 ghost use Rattle.archive_check.specs.context.PositionStates.{finish_answer};
 ghost use Rattle.archive_check.specs.WriterState.{KeepsKeys};
-ghost use Rattle.archive_write.specs.FinishedKeys.{AreFinishedKeys};
+ghost use Rattle.archive_write.specs.Known.{first_state, key_states, spare_of};
 ghost use Rattle.archive_write.specs.Sharing.{IsSet, KnowsNone};
 ghost use Rattle.archive_write.specs.Writes.{IsStarted};
 
-use crate::repeats::Repeats;
-use archive_check::format::error::Error;
-use std::alloc::{AllocError, Allocator, Global};
-use std::collections::HashMap;
-use std::hash::{BuildHasherDefault, FoldHasher};
+mod mapped;
 
-type States<A> = HashMap<u64, Option<usize>, BuildHasherDefault<FoldHasher>, A>;
+use archive_check::format::error::Error;
+use mapped::MappedKeys;
+use std::alloc::{AllocError, Allocator, Global};
+
+// A key, and its state: pending, or finished with a number.
+#[derive(Clone, Copy)]
+struct FirstKey {
+    key: u64,
+    state: Option<usize>,
+}
 
 /// The states of keys: each is unknown, pending, or finished with a number, as its position or an
-/// index. One that is found again and again is found in a slot.
+/// index.
 #[derive(Drop)]
 pub struct KnownKeys<A: Allocator = Global> {
-    states: States<A>,
-    repeats: Repeats<usize, A>,
-    ghost recalls: { AreFinishedKeys repeats.slots (get nat_eq states) },
+    first: Option<FirstKey>,
+    others: MappedKeys<A>,
 }
 
 impl<A: Allocator + Clone> KnownKeys<A> {
     /// No key. Memory comes from `alloc`, for slots from `slots`, and none is taken yet.
     pub fn new(alloc: A, slots: A) -> KnownKeys<A>
-        ensures { KnowsNone (get nat_eq result.states) }
+        ensures { KnowsNone (key_states result) }
     {
         KnownKeys {
-            states: HashMap::new(alloc),
-            repeats: Repeats::new(slots),
+            first: None,
+            others: MappedKeys::new(alloc, slots),
         }
     }
 
     /// No key, and room for `capacity` of them. Fails if memory from `alloc` is refused.
     pub fn with_capacity(alloc: A, slots: A, capacity: usize) -> Result<KnownKeys<A>, AllocError>
-        ensures fresh { IfOk result (λ known. KnowsNone (get nat_eq known.states)) }
-        ensures room { IfOk result (λ known. capacity ≤ spare known.states) }
+        ensures fresh { IfOk result (λ known. KnowsNone (key_states known)) }
+        ensures room { IfOk result (λ known. capacity ≤ spare_of known) }
     {
         Ok(KnownKeys {
-            states: HashMap::with_capacity(alloc, capacity)?,
-            repeats: Repeats::new(slots),
+            first: None,
+            others: MappedKeys::with_capacity(alloc, slots, capacity)?,
         })
+    }
+
+    // The state of a key, where it is the first one.
+    #[inline(always)]
+    fn first_state(&self, key: u64) -> Option<Option<usize>>
+        ensures { result ≡ first_state self.now.first key }
+    {
+        match self.first {
+            Some(first) if first.key == key => Some(first.state),
+            _ => None,
+        }
     }
 
     /// Whether a key is pending or finished.
     pub fn is_known(&self, key: u64) -> bool
-        ensures { result ≡ is_some (get nat_eq self.now.states key) }
+        ensures { result ≡ is_some (key_states self.now key) }
     {
-        self.states.contains_key(&key)
+        self.first_state(key).is_some() || self.others.is_known(key)
     }
 
     /// The state of a key: pending, or finished with a number; none where it is unknown.
     #[inline(always)]
     pub fn find(&mut self, key: u64) -> Option<Option<usize>>
-        ensures state { result ≡ get nat_eq self.old.states key }
-        ensures same { self.new.states ≡ self.old.states }
+        ensures state { result ≡ key_states self.old key }
+        ensures first { self.new.first ≡ self.old.first }
+        ensures others { self.new.others.states ≡ self.old.others.states }
     {
-        match self.repeats.get(key) {
-            Some(number) => Some(Some(*number)),
-            None => self.search(key),
+        match self.first_state(key) {
+            None => self.others.find(key),
+            state => state,
         }
-    }
-
-    // The same, by the map.
-    #[inline(always)]
-    fn search(&mut self, key: u64) -> Option<Option<usize>>
-        ensures state { result ≡ get nat_eq self.old.states key }
-        ensures same { self.new.states ≡ self.old.states }
-    {
-        let state = self.states.get(&key).copied();
-        if let Some(Some(number)) = state {
-            self.repeats.add_found(key, number, self.states.len());
-        }
-        state
     }
 
     /// Starts a key, and returns whether there was memory for it. The caller must ensure that the
     /// key is unknown.
     pub fn start(&mut self, key: u64) -> bool
-        requires { get nat_eq self.old.states key ≡ None }
-        ensures started { IsTrue result → IsStarted (get nat_eq self.old.states) key
-            (get nat_eq self.new.states) }
-        ensures unchanged { IsFalse result → KeepsKeys (get nat_eq self.old.states)
-            (get nat_eq self.new.states) }
-        ensures served { 0 < spare self.old.states → IsTrue result }
-        ensures room { spare self.old.states ≤ spare self.new.states + 1 }
+        requires { key_states self.old key ≡ None }
+        ensures started { IsTrue result → IsStarted (key_states self.old) key
+            (key_states self.new) }
+        ensures unchanged { IsFalse result → KeepsKeys (key_states self.old)
+            (key_states self.new) }
+        ensures served { 0 < spare_of self.old → IsTrue result }
+        ensures room { spare_of self.old ≤ spare_of self.new + 1 }
     {
-        self.states.insert(key, None).is_ok()
+        if self.first.is_some() {
+            return self.others.start(key);
+        }
+        self.first = Some(FirstKey { key, state: None });
+        true
     }
 
     /// Finishes the pending `key` with `number`. Takes no memory. Fails with `NotStarted` if it is
     /// unknown, and with `AlreadyFinished` if it is finished already.
     pub fn finish(&mut self, key: u64, number: usize) -> Result<(), Error>
-        ensures answer { result ≡ finish_answer is_some (get nat_eq self.old.states key) }
-        ensures after { OnOk result (IsSet (get nat_eq self.old.states) key (Some (Some number))
-            (get nat_eq self.new.states)) }
-        ensures unchanged { OnErr result (KeepsKeys (get nat_eq self.old.states)
-            (get nat_eq self.new.states)) }
-        ensures room { spare self.new.states ≡ spare self.old.states }
+        ensures answer { result ≡ finish_answer is_some (key_states self.old key) }
+        ensures after { OnOk result (IsSet (key_states self.old) key (Some (Some number))
+            (key_states self.new)) }
+        ensures unchanged { OnErr result (KeepsKeys (key_states self.old)
+            (key_states self.new)) }
+        ensures room { spare_of self.new ≡ spare_of self.old }
     {
-        match self.states.get_mut(&key) {
-            None => Err(Error::NotStarted),
-            Some(state) => {
-                if state.is_some() {
-                    return Err(Error::AlreadyFinished);
-                }
-                *state = Some(number);
+        match self.first_state(key) {
+            None => self.others.finish(key, number),
+            Some(Some(_)) => Err(Error::AlreadyFinished),
+            Some(None) => {
+                self.first = Some(FirstKey {
+                    key,
+                    state: Some(number),
+                });
                 Ok(())
             }
         }
@@ -117,10 +124,10 @@ impl<A: Allocator + Clone> KnownKeys<A> {
 
     /// Forgets every key. Takes no memory, and keeps what it has.
     pub fn clear(&mut self)
-        ensures fresh { KnowsNone (get nat_eq self.new.states) }
-        ensures room { spare self.old.states ≤ spare self.new.states }
+        ensures fresh { KnowsNone (key_states self.new) }
+        ensures room { spare_of self.old ≤ spare_of self.new }
     {
-        self.states.clear();
-        self.repeats.clear();
+        self.first = None;
+        self.others.clear();
     }
 }

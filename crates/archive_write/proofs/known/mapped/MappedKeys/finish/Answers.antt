@@ -2,7 +2,7 @@ use Rattle.std.proofs.Common.{nat_eq, sym, ap, ◌∙◌, subst, Some, is_some}
 use Rattle.std.specs.HashMap.{get}
 use Rattle.archive_write.specs.FinishedKeys.{AreFinishedKeys}
 use Rattle.archive_write.proofs.FinishedKeys.{pending_of, finished_again, finished_set}
-use Rattle.archive_write.proofs.known.KnownKeys.finish.Goals as goal
+use Rattle.archive_write.proofs.known.mapped.MappedKeys.finish.Goals as goal
 
 pub invariant_of-self : goal.invariant_of-self
 invariant_of-self g c = record { recalls = subst (λ m. AreFinishedKeys c.args.self.now.repeats.slots (get nat_eq m)) (sym c.get_mut.follows.holds-at-none) c.args.self.now.recalls }

@@ -1,7 +1,7 @@
 use Rattle.std.proofs.Common.{◌≡◌, nat_eq, sym, ap, ◌∙◌, Some}
 use Rattle.std.specs.HashMap.{get}
 use Rattle.archive_write.proofs.FinishedKeys.{finished_found}
-use Rattle.archive_write.proofs.known.KnownKeys.search.Goals as goal
+use Rattle.archive_write.proofs.known.mapped.MappedKeys.search.Goals as goal
 
 pub invariant_of-self : goal.invariant_of-self
 invariant_of-self g c =

@@ -1,6 +1,6 @@
 use Rattle.std.proofs.Common.{BuildHasherDefault, FoldHasher}
 use Rattle.archive_write.proofs.FinishedKeys.{finished_inserted}
-use Rattle.archive_write.proofs.known.KnownKeys.start.Goals as goal
+use Rattle.archive_write.proofs.known.mapped.MappedKeys.start.Goals as goal
 
 pub invariant_of-self : goal.invariant_of-self
 invariant_of-self g c =
