@@ -1,23 +1,18 @@
 -- The states of keys: that of the first one lies beside a map of the others.
 use Rattle.std.specs.Prelude.{ℕ, cond, Option, Some, None, Box, nat_eq}
 use Rattle.std.specs.HashMap.{get, spare}
-use Rattle.archive_check.specs.WriterState.{KeyState, KeyStates, no_keys}
+use Rattle.archive_check.specs.WriterState.{KeyStates, no_keys}
 use Rattle.archive_write.specs.declared.known.FirstKey.{FirstKey}
 use Rattle.archive_write.specs.declared.known.KnownKeys.{KnownKeys}
 
--- The state of a key, where it is the first one.
-abbrev pub first_state : Option FirstKey → KeyStates
-first_state None key = None
-first_state (Some first) key = cond (nat_eq first.key key) (Some first.state) None
-
--- This state, or the other one of a key that has none here.
-abbrev pub or_else : KeyState → KeyState → KeyState
-or_else None other = other
-or_else (Some state) other = Some state
+-- These states, and that of the first key, if there is one.
+abbrev pub with_first : Option FirstKey → KeyStates → KeyStates
+with_first None states key = states key
+with_first (Some first) states key = cond (nat_eq first.key key) (Some first.state) (states key)
 
 -- The states of all keys.
 abbrev pub key_states : {A : Type 0} → KnownKeys A → KeyStates
-key_states known key = or_else (first_state known.first key) (get nat_eq known.others.states key)
+key_states known = with_first known.first (get nat_eq known.others.states)
 
 -- How many keys there is room for without more memory.
 abbrev pub spare_of : {A : Type 0} → KnownKeys A → ℕ

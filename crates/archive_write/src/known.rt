@@ -2,8 +2,8 @@
 
 ghost use Rattle.std.specs.Prelude.{◌≡◌, ◌+◌, ◌≤◌, ◌<◌, None, Some, OnOk, OnErr, IfOk, IsTrue, IsFalse, is_some};
 ghost use Rattle.archive_check.specs.context.PositionStates.{finish_answer};
-ghost use Rattle.archive_check.specs.WriterState.{KeepsKeys};
-ghost use Rattle.archive_write.specs.Known.{first_state, key_states, spare_of};
+ghost use Rattle.archive_check.specs.WriterState.{KeepsKeys, no_keys};
+ghost use Rattle.archive_write.specs.Known.{key_states, spare_of, with_first};
 ghost use Rattle.archive_write.specs.Sharing.{IsSet, KnowsNone};
 ghost use Rattle.archive_write.specs.Writes.{IsStarted};
 
@@ -53,7 +53,7 @@ impl<A: Allocator + Clone> KnownKeys<A> {
     // The state of a key, where it is the first one.
     #[inline(always)]
     fn first_state(&self, key: u64) -> Option<Option<usize>>
-        ensures { result ≡ first_state self.now.first key }
+        ensures { result ≡ with_first self.now.first no_keys key }
     {
         match self.first {
             Some(first) if first.key == key => Some(first.state),
