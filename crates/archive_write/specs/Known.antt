@@ -11,7 +11,7 @@ with_first None states key = states key
 with_first (Some first) states key = cond (nat_eq first.key key) (Some first.state) (states key)
 
 -- The states of all keys.
-abbrev pub key_states : {A : Type 0} → KnownKeys A → KeyStates
+unfoldable pub key_states : {A : Type 0} → KnownKeys A → KeyStates
 key_states known = with_first known.first (get nat_eq known.others.states)
 
 -- How many keys there is room for without more memory.

@@ -1,4 +1,5 @@
 //! The keys that are known. The first one lies beside the map of the others, since many archives share one value. Those of a pool are positions.
+#![tactic(auto, unfolding(crate::specs::Known::key_states))]
 
 ghost use Rattle.std.specs.Prelude.{◌≡◌, ◌+◌, ◌≤◌, ◌<◌, None, Some, OnOk, OnErr, IfOk, IsTrue, IsFalse, is_some};
 ghost use Rattle.archive_check.specs.context.PositionStates.{finish_answer};
@@ -72,8 +73,8 @@ impl<A: Allocator + Clone> KnownKeys<A> {
     #[inline(always)]
     pub fn find(&mut self, key: u64) -> Option<Option<usize>>
         ensures state { result ≡ key_states self.old key }
-        ensures first { self.new.first ≡ self.old.first }
-        ensures others { self.new.others.states ≡ self.old.others.states }
+        ensures same { key_states self.new ≡ key_states self.old }
+        ensures room { spare_of self.new ≡ spare_of self.old }
     {
         match self.first_state(key) {
             None => self.others.find(key),

@@ -148,6 +148,7 @@ impl<A: Allocator + Clone> Share<A> {
     }
 
     // Makes the map, where there is none.
+    #[tactic(auto, unfolding(crate::specs::Known::key_states))]
     fn open(&mut self) -> Result<(), Error>
         ensures open { OnOk result (IsSome self.new.states) }
         ensures same_keys { KeepsKeys (known_keys self.old.states) (known_keys self.new.states) }
