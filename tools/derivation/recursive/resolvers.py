@@ -154,9 +154,14 @@ def archive(it):
 """
 
 
+def bound(it, case):
+    """The names of a variant's fields where it is resolved. What a box leads to isn't looked at."""
+    is_read = [has_elements(type) and not arrays.is_array(type) or is_map(type) or it.terms.is_member(type) for type in case.types]
+    return [name if here or not back else f"_{name}" for name, here, back in zip(case.names, is_read, case.leads_back)]
+
+
 def resolve_arm(it, case):
     rust, values, lines = hollows(it, case)
-    names = [name if not back or has_elements(type) and not arrays.is_array(type) or is_map(type) or it.terms.is_member(type) else f"_{name}" for name, type, back in zip(case.names, case.types, case.leads_back)]
     kept_ = handed_on(it.formats, case.types)
     if case.is_long:
         resolved = lent.call(it, case, values, kept_, 16)
@@ -166,8 +171,8 @@ def resolve_arm(it, case):
     opened = f"let {it.resolver}::{case.name}(kept) = resolver" if case.count else f"let {it.resolver}::{case.name} = resolver"
     other = " else {\n                    unreachable!();\n                }" if len(it.cases) > 1 else ""
     if not case.count:
-        return f"            {flat(pattern(it, case, names))} => {{\n{resolved}            }}\n"
-    return f"""            {flat(pattern(it, case, names))} => {{
+        return f"            {flat(pattern(it, case, bound(it, case)))} => {{\n{resolved}            }}\n"
+    return f"""            {flat(pattern(it, case, bound(it, case)))} => {{
                 {opened}{other};
 {taken_apart(it.formats, case.types, 16)}{"".join(statement(16, before, made, ";") for before, made in lines)}{resolved}            }}
 """

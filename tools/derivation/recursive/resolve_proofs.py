@@ -1,0 +1,34 @@
+"""The answers on `resolve` of enums. Each variant's call leaves what `resolve` is to leave, once the value and what was kept of it are written as this variant's.
+The search finds that, too, in a minute where there are three variants."""
+
+from . import proofs, resolvers
+
+
+def files(it):
+    """None for records, for what holds recursive types, and where a variant's fields are lent to a call of the module."""
+    if it.is_record or it.is_holder or len(it.cases) < 2 or any(case.is_long for case in it.cases):
+        return {}
+    answers = proofs.Answers(it.family, f"{it.name}Archive/resolve")
+    arms = "".join(f"    | {arm(case)} w ↦ {resolved(it, case)}\n" for case in it.cases)
+    answers.answer("", "returns", f"elim g.match-self.branch [\n{arms}  ]", "g")
+    return {path: with_arms(text, map(arm, it.cases)) for path, text in answers.files().items()}
+
+
+def arm(case):
+    """The arm that a variant is resolved in, by the check's name."""
+    return f"in-{case.name}+in-{case.name}-resolver" if case.count else f"in-{case.name}"
+
+
+def resolved(it, case):
+    """What the arm's call leaves."""
+    here = f"w.in-{case.name}"
+    opened = " ".join([f"{case.n}_opens"] + [f"{here}.{name}" for name in resolvers.bound(it, case)])
+    steps = [f"{here}.is", f"{here}-resolver.is", opened] if case.count else [f"{here}.is", opened]
+    return f"rw ({', '.join(steps + ['w.bytes-is', 'w.result-is'])}) (search rules)"
+
+
+def with_arms(text, arms):
+    """An answer's file, which brings in the arms."""
+    before, goals, after = text.rpartition(".Goals as goal\n")
+    path = before[before.rindex("use ") :]
+    return f"{before}{goals}{path}.Goals.{{{', '.join(arms)}}}\n{after}"
