@@ -1,0 +1,23 @@
+"""Answers on how an enum of a recursive type is resolved: an arm for each variant."""
+
+import os
+
+from .repository import RepositoryTest
+
+
+class ResolveProofs(RepositoryTest):
+    def answers(self, declared, name):
+        path = self.put(declared)
+        self.assertEqual(self.run_command(path), (0, ""))
+        file = path.replace("src/types.rt", f"proofs/types/{name}Archive/resolve/Answers.antt")
+        return self.text(file) if os.path.exists(file) else None
+
+    def test_each_variant_has_an_arm(self):
+        text = self.answers("#[derive(Drop)]\npub enum A { Nil, Num(i64), Add(Box<A>, Box<A>), Call(String, Vec<A>) }", "A")
+        self.assertIn("in-Nil w ↦ rw (w.in-Nil.is, a_nil_opens, w.bytes-is, w.result-is) (search rules)", text)
+        self.assertIn("rw (w.in-Add.is, w.in-Add-resolver.is, a_add_opens w.in-Add._a0 w.in-Add._a1, w.bytes-is, w.result-is)", text)
+        self.assertIn("rw (w.in-Call.is, w.in-Call-resolver.is, a_call_opens w.in-Call.a0 w.in-Call.a1, w.bytes-is, w.result-is)", text)
+        self.assertIn("resolve.Goals.{in-Nil, in-Num+in-Num-resolver, in-Add+in-Add-resolver, in-Call+in-Call-resolver}", text)
+
+    def test_a_record_has_none(self):
+        self.assertIsNone(self.answers("#[derive(Drop)]\npub struct A { x: u8, y: Vec<A> }", "A"))
