@@ -9,8 +9,8 @@ def files(it):
     if it.is_record or it.is_holder or len(it.cases) < 2 or any(case.is_long for case in it.cases):
         return {}
     answers = proofs.Answers(it.family, f"{it.name}Archive/resolve")
-    arms = "".join(f"    | {arm(case)} w ↦ {resolved(it, case)}\n" for case in it.cases)
-    answers.answer("", "returns", f"elim g.match-self.branch [\n{arms}  ]", "g")
+    arms = "".join(f"  | {arm(case)} w ↦ {resolved(it, case)}\n" for case in it.cases)
+    answers.answer("", "returns", f"elim g.match-self.branch [\n{arms}]", "g")
     return {path: with_arms(text, map(arm, it.cases)) for path, text in answers.files().items()}
 
 

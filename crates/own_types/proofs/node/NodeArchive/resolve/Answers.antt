@@ -6,6 +6,6 @@ use Rattle.own_types.proofs.node.NodeArchive.resolve.Goals.{in-Nil, in-Cons+in-C
 
 pub returns : goal.returns
 returns g = elim g.match-self.branch [
-    | in-Nil w ↦ rw (w.in-Nil.is, node_nil_opens, w.bytes-is, w.result-is) (search rules)
-    | in-Cons+in-Cons-resolver w ↦ rw (w.in-Cons.is, w.in-Cons-resolver.is, node_cons_opens w.in-Cons._a0, w.bytes-is, w.result-is) (search rules)
-  ]
+  | in-Nil w ↦ rw (w.in-Nil.is, node_nil_opens, w.bytes-is, w.result-is) (search rules)
+  | in-Cons+in-Cons-resolver w ↦ rw (w.in-Cons.is, w.in-Cons-resolver.is, node_cons_opens w.in-Cons._a0, w.bytes-is, w.result-is) (search rules)
+]

@@ -6,6 +6,6 @@ use Rattle.recursive_types.proofs.dir.EntryArchive.resolve.Goals.{in-File+in-Fil
 
 pub returns : goal.returns
 returns g = elim g.match-self.branch [
-    | in-File+in-File-resolver w ↦ rw (w.in-File.is, w.in-File-resolver.is, entry_file_opens w.in-File.a0, w.bytes-is, w.result-is) (search rules)
-    | in-Sub+in-Sub-resolver w ↦ rw (w.in-Sub.is, w.in-Sub-resolver.is, entry_sub_opens w.in-Sub._a0, w.bytes-is, w.result-is) (search rules)
-  ]
+  | in-File+in-File-resolver w ↦ rw (w.in-File.is, w.in-File-resolver.is, entry_file_opens w.in-File.a0, w.bytes-is, w.result-is) (search rules)
+  | in-Sub+in-Sub-resolver w ↦ rw (w.in-Sub.is, w.in-Sub-resolver.is, entry_sub_opens w.in-Sub._a0, w.bytes-is, w.result-is) (search rules)
+]

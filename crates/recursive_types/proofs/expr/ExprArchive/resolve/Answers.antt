@@ -6,7 +6,7 @@ use Rattle.recursive_types.proofs.expr.ExprArchive.resolve.Goals.{in-Num+in-Num-
 
 pub returns : goal.returns
 returns g = elim g.match-self.branch [
-    | in-Num+in-Num-resolver w ↦ rw (w.in-Num.is, w.in-Num-resolver.is, expr_num_opens w.in-Num.a0, w.bytes-is, w.result-is) (search rules)
-    | in-Add+in-Add-resolver w ↦ rw (w.in-Add.is, w.in-Add-resolver.is, expr_add_opens w.in-Add._a0 w.in-Add._a1, w.bytes-is, w.result-is) (search rules)
-    | in-Call+in-Call-resolver w ↦ rw (w.in-Call.is, w.in-Call-resolver.is, expr_call_opens w.in-Call.a0 w.in-Call.a1, w.bytes-is, w.result-is) (search rules)
-  ]
+  | in-Num+in-Num-resolver w ↦ rw (w.in-Num.is, w.in-Num-resolver.is, expr_num_opens w.in-Num.a0, w.bytes-is, w.result-is) (search rules)
+  | in-Add+in-Add-resolver w ↦ rw (w.in-Add.is, w.in-Add-resolver.is, expr_add_opens w.in-Add._a0 w.in-Add._a1, w.bytes-is, w.result-is) (search rules)
+  | in-Call+in-Call-resolver w ↦ rw (w.in-Call.is, w.in-Call-resolver.is, expr_call_opens w.in-Call.a0 w.in-Call.a1, w.bytes-is, w.result-is) (search rules)
+]

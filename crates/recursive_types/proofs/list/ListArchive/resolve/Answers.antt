@@ -6,6 +6,6 @@ use Rattle.recursive_types.proofs.list.ListArchive.resolve.Goals.{in-Nil, in-Con
 
 pub returns : goal.returns
 returns g = elim g.match-self.branch [
-    | in-Nil w ↦ rw (w.in-Nil.is, list_nil_opens, w.bytes-is, w.result-is) (search rules)
-    | in-Cons+in-Cons-resolver w ↦ rw (w.in-Cons.is, w.in-Cons-resolver.is, list_cons_opens w.in-Cons.a0 w.in-Cons._a1, w.bytes-is, w.result-is) (search rules)
-  ]
+  | in-Nil w ↦ rw (w.in-Nil.is, list_nil_opens, w.bytes-is, w.result-is) (search rules)
+  | in-Cons+in-Cons-resolver w ↦ rw (w.in-Cons.is, w.in-Cons-resolver.is, list_cons_opens w.in-Cons.a0 w.in-Cons._a1, w.bytes-is, w.result-is) (search rules)
+]
