@@ -1,17 +1,30 @@
 """The answers on `resolve` of enums. Each variant's call leaves what `resolve` is to leave, once the value and what was kept of it are written as this variant's.
 The search finds that, too, in a minute where there are three variants."""
 
+from ..formats import POINTERS
 from . import proofs, resolvers
 
 
 def files(it):
     """None for records, for what holds recursive types, and where a variant's fields are lent to a call of the module."""
-    if it.is_record or it.is_holder or len(it.cases) < 2 or any(case.is_long for case in it.cases):
+    if it.is_record or it.is_holder or len(it.cases) < 2 or any(case.is_long for case in it.cases) or is_split(it):
         return {}
     answers = proofs.Answers(it.family, f"{it.name}Archive/resolve")
     arms = "".join(f"  | {arm(case)} w ↦ {resolved(it, case)}\n" for case in it.cases)
     answers.answer("", "returns", f"elim g.match-self.branch [\n{arms}]", "g")
     return {path: with_arms(text, map(arm, it.cases)) for path, text in answers.files().items()}
+
+
+def is_split(it):
+    """Whether the arm of a variant without fields is more than one: what was kept is let go there, which tells the variants apart where that has memory."""
+    return any(not case.count for case in it.cases) and any(keeps_memory(field.type, []) for field in it.declaration.all_fields())
+
+
+def keeps_memory(type, within):
+    """Whether what is kept of a value between `serialize` and `resolve` has memory: an array's elements are kept in a vector."""
+    if type.own is not None:
+        return type.own not in within and any(keeps_memory(field.type, within + [type.own]) for field in type.own.all_fields())
+    return type.name in ("array", "OwnedArray") or type.name not in POINTERS and any(keeps_memory(arg, within) for arg in type.args)
 
 
 def arm(case):

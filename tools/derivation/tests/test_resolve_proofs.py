@@ -21,3 +21,10 @@ class ResolveProofs(RepositoryTest):
 
     def test_a_record_has_none(self):
         self.assertIsNone(self.answers("#[derive(Drop)]\npub struct A { x: u8, y: Vec<A> }", "A"))
+
+    def test_none_where_what_is_kept_is_let_go_by_variants(self):
+        head = "#[derive(Drop)]\npub struct P { x: [u8; 3] }\n#[derive(Drop)]\npub enum A {"
+        for fields in ("Color([u8; 3])", "Part(P)", "Maybe(Option<[u8; 3]>)"):
+            with self.subTest(fields):
+                self.assertIsNone(self.answers(f"{head} {fields}, Both(Box<A>, Box<A>), Nil }}", "A"))
+        self.assertIsNotNone(self.answers(f"{head} Color([u8; 3]), Both(Box<A>, Box<A>) }}", "A"))
