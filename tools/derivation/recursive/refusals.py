@@ -2,7 +2,7 @@
 
 from typing import List
 
-from ..formats import has_shared
+from ..formats import POINTERS, has_shared
 from ..model import Declaration, Refused, Type
 from .plain import LEAVES, has_boxed, is_shaped
 
@@ -29,6 +29,7 @@ def check_recursive(it: Declaration, line: int, names: str):
         for field in fields:
             check_part(it, field.type, field.line)
     check_rows(it)
+    check_kept(it)
 
 
 def check_rows(it: Declaration):
@@ -38,6 +39,31 @@ def check_rows(it: Declaration):
         if len(it.family) > 1 or not is_named(field.type, "Vec") or it.kind == "enum" and i > 0:
             said = f"a tuple that leads back to `{it.name}` is written in a `Vec` of a struct, or in one of an enum, if no other type is recursive with it"
             raise Refused(it.path, field.line, f"{said}; write a struct of this file")
+
+
+def check_kept(it: Declaration):
+    """How an enum with a vector of shared pointers is resolved has to be told for each arm, and these aren't known where a variant without fields lets go of memory."""
+    fields = it.all_fields()
+    array = next((field for field in fields if keeps_memory(field.type)), None)
+    has_unit = it.kind == "enum" and any(not variant.fields for variant in it.variants)
+    if has_unit and array is not None and any(is_shared_run(it, field.type) for field in fields):
+        said = f"an array isn't proved in the recursive `{it.name}`, which has a vector of shared pointers and a variant without fields"
+        raise Refused(it.path, array.line, f"{said}; put it into a `Box`, in a struct of another file")
+
+
+def keeps_memory(type: Type, within=()) -> bool:
+    """Whether what is kept of a value between `serialize` and `resolve` has memory: an array's elements are kept in a vector."""
+    if type.own is not None:
+        return type.own not in within and any(keeps_memory(field.type, (*within, type.own)) for field in type.own.all_fields())
+    return type.name in ("array", "OwnedArray") or type.name not in POINTERS and any(keeps_memory(arg, within) for arg in type.args)
+
+
+def is_shared_run(it: Declaration, type: Type) -> bool:
+    """Whether it is a vector of shared or weak pointers to a type of the family, or a box of one."""
+    run = type.args[0] if is_named(type, "Box") else type
+    if run.name not in ("Vec", "BoxSlice") or run.own is not None:
+        return False
+    return is_shared(it, run.args[0]) or is_named(run.args[0], "WeakShared")
 
 
 def check_family(it: Declaration, names: str):

@@ -1,8 +1,8 @@
 """The answers on `resolve` of enums. Each variant's call leaves what `resolve` is to leave, once the value and what was kept of it are written as this variant's.
 The search finds that, too, in a minute where there are three variants."""
 
-from ..formats import POINTERS
-from . import proofs, resolvers
+from . import proofs, resolved, resolvers
+from .refusals import keeps_memory
 
 
 def files(it):
@@ -10,21 +10,15 @@ def files(it):
     if it.is_record or it.is_holder or len(it.cases) < 2 or any(case.is_long for case in it.cases) or is_split(it):
         return {}
     answers = proofs.Answers(it.family, f"{it.name}Archive/resolve")
-    arms = "".join(f"  | {arm(case)} w ↦ {resolved(it, case)}\n" for case in it.cases)
+    ends = resolved.arms(it) if resolved.is_told(it) else [end(it, case) for case in it.cases]
+    arms = "".join(f"  | {arm(case)} w ↦ {its}\n" for case, its in zip(it.cases, ends))
     answers.answer("", "returns", f"elim g.match-self.branch [\n{arms}]", "g")
     return {path: with_arms(text, map(arm, it.cases)) for path, text in answers.files().items()}
 
 
 def is_split(it):
     """Whether the arm of a variant without fields is more than one: what was kept is let go there, which tells the variants apart where that has memory."""
-    return any(not case.count for case in it.cases) and any(keeps_memory(field.type, []) for field in it.declaration.all_fields())
-
-
-def keeps_memory(type, within):
-    """Whether what is kept of a value between `serialize` and `resolve` has memory: an array's elements are kept in a vector."""
-    if type.own is not None:
-        return type.own not in within and any(keeps_memory(field.type, within + [type.own]) for field in type.own.all_fields())
-    return type.name in ("array", "OwnedArray") or type.name not in POINTERS and any(keeps_memory(arg, within) for arg in type.args)
+    return any(not case.count for case in it.cases) and any(keeps_memory(field.type) for field in it.declaration.all_fields())
 
 
 def arm(case):
@@ -32,8 +26,8 @@ def arm(case):
     return f"in-{case.name}+in-{case.name}-resolver" if case.count else f"in-{case.name}"
 
 
-def resolved(it, case):
-    """What the arm's call leaves."""
+def end(it, case):
+    """What a variant's arm comes to."""
     here = f"w.in-{case.name}"
     opened = " ".join([f"{case.n}_opens"] + [f"{here}.{name}" for name in resolvers.bound(it, case)])
     steps = [f"{here}.is", f"{here}-resolver.is", opened] if case.count else [f"{here}.is", opened]

@@ -1,4 +1,4 @@
-"""The answers on an enum that is resolved with vectors of shared pointers in it.
+"""The arms of `resolve` of an enum with vectors of shared pointers in it.
 
 What the flavor of such a pointer is the search of the check compares by its text alone where the arms of a match have met: there it is written out in the one, and
 named in the other.
@@ -59,34 +59,14 @@ def arm(it, case, named):
     new, resolved = (f"w.{name}" for _, of, name in named if of is None)
     is_ = f"w.in-{case.name}.is, w.in-{case.name}-resolver.is, {case.n}_opens {' '.join(values)}"
     return (
-        f"{lets}let after : c.match-self.bytes ≡ {resolved}.new.place.0 = {FOUND} in let there = rw ({', '.join(same + [f'{new}.ensures.position'])}) at {resolved}.ensures in"
+        f"{lets}let after : g.match-self.bytes ≡ {resolved}.new.place.0 = {FOUND} in let there = rw ({', '.join(same + [f'{new}.ensures.position'])}) at {resolved}.ensures in"
         f" rw ({is_}, after, w.result-is) (record {{ resolved = there.resolved; refused = there.refused; same_length = {FOUND} }})"
     )
 
 
-def files(it):
-    """The answers, by their paths."""
-    if not is_told(it):
-        return {}
+def arms(it):
+    """What each variant's arm comes to."""
     made = [(case, word, of) for case in it.cases for word, of in calls_in(it, case)]
     names = write_proofs.in_arms([(case.name, word) for case, word, _ in made])
-    arms, steps = "", []
-    for case in it.cases:
-        step = f"in-{case.name}+in-{case.name}-resolver" if case.count else f"in-{case.name}"
-        named = [(word, of, name) for (other, word, of), name in zip(made, names) if other is case]
-        steps.append(step)
-        arms += f"  | {step} w ↦ {arm(it, case, named) if case.count else FOUND}\n"
-    opens = [f"{case.n}_opens" for case in it.cases if case.count]
-    module = it.declaration.module
-    goals = ".".join(("Rattle", it.declaration.crate, "proofs") + tuple(module) + (f"{it.name}Archive", "resolve", "Goals"))
-    text = f"""-- {it.written}
-use Rattle.std.proofs.Common.{{rules, length, ◌≡◌, arith}}
-use Rattle.{it.declaration.crate}.specs.{it.family.name}Meaning.{{{', '.join(opens)}}}
-use {goals}.{{{', '.join(steps)}}}
-use {goals} as goal
-
-pub returns : goal.returns
-returns c = elim c.match-self.branch [
-{arms}]
-"""
-    return {f"proofs/{'/'.join(module)}/{it.name}Archive/resolve/Answers.antt": text}
+    each = [[(word, of, name) for (other, word, of), name in zip(made, names) if other is case] for case in it.cases]
+    return [arm(it, case, named) if case.count else FOUND for case, named in zip(it.cases, each)]

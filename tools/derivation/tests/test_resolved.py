@@ -43,4 +43,11 @@ class Resolved(RepositoryTest):
 
     def test_others_are_left_to_the_search(self):
         self.assertEqual(self.run_command(self.put(TOWN)), (0, ""))
-        self.assertEqual([os.path.exists(self.place(name)) for name in ("Town", "Way")], [True, False])
+        self.assertNotIn("after", self.answers("Town"))
+        self.assertIn("rw (w.in-Closed.is, w.in-Closed-resolver.is, way_closed_opens w.in-Closed.a0, w.bytes-is, w.result-is)", self.answers("Way"))
+
+    def test_no_array_where_a_variant_without_fields_lets_go_of_memory(self):
+        oak = OAK.replace("Leaf", "Leaf, Key([u8; 2])")
+        said = "an array isn't proved in the recursive `Oak`, which has a vector of shared pointers and a variant without fields"
+        self.assertEqual(self.refusal(oak), f"3: {said}; put it into a `Box`, in a struct of another file")
+        self.assertEqual(self.run_command(self.put(oak.replace("Leaf,", "Leaf(u8),"))), (0, ""))
