@@ -3,7 +3,7 @@
 
 from . import arrays
 from . import chain_proofs as chains
-from . import expressions, hollow, lent, slices, weak
+from . import expressions, hollow, lent, resolved, slices, weak
 from .specs import owns
 from .term_words import brought, places, stem
 from . import write_proofs
@@ -296,6 +296,7 @@ def files(family):
             out.update(defining(it))
             out.update(hollow.files(it))
             out.update(weak.files(it))
+            out.update(resolved.files(it))
     if family.first.is_chain:
         out.update(chains.files(family.first))
         return out

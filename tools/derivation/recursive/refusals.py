@@ -110,7 +110,7 @@ def check_owner(it: Declaration, type: Type, line: int):
         return
     written = (
         f"a `Box<{it.name}>`, a `Shared<{it.name}>`, an `Option` of one, a `Vec` or a `BoxSlice` of `{it.name}`, of `Box<{it.name}>`, `Option<Box<{it.name}>>` or `Shared<{it.name}>`,"
-        f" a `Vec` of tuples or, in a struct, of `Option<Shared<{it.name}>>`, a `Box` of a `Vec` of others, a `SharedSlice` or a `BTreeMap` of `{it.name}` is"
+        f" a `Vec` of tuples or, but in an enum of a family, of `Option<Shared<{it.name}>>`, a `Box` of a `Vec` of others, a `SharedSlice` or a `BTreeMap` of `{it.name}` is"
     )
     if type.name not in ("Box", "BoxSlice", "Option", "Shared", "Vec") or type.own is not None:
         raise Refused(it.path, line, f"`{type.name}` around `{it.name}` isn't written yet; {written}")
@@ -135,11 +135,11 @@ def check_array(it: Declaration, type: Type, line: int):
 
 
 def check_slice(it: Declaration, type: Type, line: int):
-    """A shared slice that leads back has elements of the type itself; beside it others lead back in a struct alone, and by boxes. Others aren't proved."""
+    """A shared slice that leads back has elements of the type itself; beside it others lead back in a struct alone, by boxes and shared slices. Others aren't proved."""
     others = [field.type for field in it.all_fields() if leads_back(it, field.type) and field.type is not type]
-    beside = it.kind == "struct" and all(is_pointer(it, other) for other in others)
+    beside = it.kind == "struct" and all(is_pointer(it, other) or is_named(other, "SharedSlice") for other in others)
     if len(it.family) > 1 or others and not beside or not is_member(it, type.args[0]):
-        said = f"a `SharedSlice` that leads back to `{it.name}` is written with elements of `{it.name}`, if no other field leads back but, in a struct, by a box, and no other type is recursive with it"
+        said = f"a `SharedSlice` that leads back to `{it.name}` is written with elements of `{it.name}`, if no other field leads back but, in a struct, by a box or a `SharedSlice`, and no other type is recursive with it"
         raise Refused(it.path, line, f"{said}; write a `Shared` of a struct of this file with a `Vec`")
 
 
@@ -211,12 +211,12 @@ def is_map(it: Declaration, type: Type) -> bool:
 
 
 def is_nullable(it: Declaration, type: Type) -> bool:
-    """Whether it is a weak pointer, but in an enum of a family, or in a struct a vector of these or of options of shared pointers."""
+    """Whether it is a weak pointer or a vector of options of shared pointers, but in an enum of a family, or in a struct a vector of weak pointers."""
     item = type.args[0] if is_named(type, "Vec") else type
+    is_proved = it.kind == "struct" or len(it.family) == 1
     if item is not type and is_named(item, "Option"):
-        return it.kind == "struct" and is_shared(it, item)
-    is_proved = it.kind == "struct" or item is type and len(it.family) == 1
-    return is_proved and is_named(item, "WeakShared") and is_member(it, item.args[0])
+        return is_proved and is_shared(it, item)
+    return is_proved and is_named(item, "WeakShared") and is_member(it, item.args[0]) and (it.kind == "struct" or item is type)
 
 
 def is_list(it: Declaration, type: Type) -> bool:

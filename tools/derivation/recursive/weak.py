@@ -384,7 +384,7 @@ def read(it, type, answers):
     answer("in-Err-finish_target", "refused", f"inl (c.in-Err-finish_target.ensures.refused _ _ {bytes_} {length} {begun} {back})")
 
 
-# What a value of a family is resolved to: the search of the check alone doesn't look at its fields.
+# What a struct of a family is resolved to: the search of the check alone doesn't look at its fields. An enum's goals are those of its variants.
 RESOLVED = """use Rattle.std.proofs.Common.{rules}
 use Rattle.DECLARED.{out-NAME}
 use Rattle.HERE.NAMEArchive.resolve.Goals as goal
@@ -404,6 +404,6 @@ def files(it):
     crate, module = it.declaration.crate, it.declaration.module
     here, folder = ".".join((crate, "proofs") + tuple(module)), "/".join(("proofs",) + tuple(module))
     each = {"begin_target": BEGUN, "finish_target": FINISHED} if is_first(it) else {}
-    if len(it.family.members) > 1 and any(it.terms.is_weak(field.type) for field in it.declaration.all_fields()):
+    if it.is_record and len(it.family.members) > 1 and any(it.terms.is_weak(field.type) for field in it.declaration.all_fields()):
         each[f"{it.name}Archive/resolve"] = RESOLVED.replace("DECLARED", it.family.declared(it.name)).replace("NAME", it.name)
     return {f"{folder}/{name}/Answers.antt": f"-- {it.written}\n{text.replace('HERE', here)}" for name, text in each.items()}

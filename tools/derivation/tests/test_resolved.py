@@ -1,0 +1,46 @@
+"""Answers on enums that are resolved with vectors of shared pointers in them."""
+
+import os
+
+from .repository import RepositoryTest
+
+OAK = "use archive_core::rc::Shared;\n#[derive(Drop)]\npub enum Oak { Leaf, Options(Vec<Option<Shared<Oak>>>) }\n"
+MIX = """use archive_core::rc::{Shared, WeakShared};
+#[derive(Drop)]
+pub enum Mix { Leaf(u8), All(Vec<Shared<Mix>>), Both(WeakShared<Mix>, Vec<Option<Shared<Mix>>>), One(Shared<Mix>) }
+"""
+TOWN = """use archive_core::rc::{Shared, WeakShared};
+#[derive(Drop)]
+pub struct Town { way: WeakShared<Way> }
+#[derive(Drop)]
+pub enum Way { Closed(u8), To(Shared<Town>) }
+"""
+
+
+class Resolved(RepositoryTest):
+    def place(self, name):
+        return os.path.join(self.top, "crates", "game", "proofs", "types", f"{name}Archive", "resolve", "Answers.antt")
+
+    def answers(self, name):
+        return self.text(self.place(name))
+
+    def test_the_number_of_elements_and_the_place_are_told(self):
+        path = self.put(OAK)
+        self.assertEqual(self.run_command(path), (0, ""))
+        answers = self.answers("Oak")
+        for word in ("  | in-Leaf w ↦ search rules\n", "w.of-h0.result.len ≡ length w.in-Options.a0.items", "rw (same0, w.new-in-Options.ensures.position) at w.resolve_named_case_1.ensures"):
+            self.assertIn(word, answers)
+        self.assertIn("rw (w.in-Options.is, w.in-Options-resolver.is, oak_options_opens w.in-Options.a0, after, w.result-is)", answers)
+        self.assertEqual(self.run_command("--check", path), (0, ""))
+
+    def test_calls_are_named_after_the_arms_before(self):
+        self.assertEqual(self.run_command(self.put(MIX)), (0, ""))
+        answers = self.answers("Mix")
+        self.assertIn("w.of-h0.result.len ≡ length w.in-All.a0.items = grind (arith, w.of-h0.ensures, w.len.ensures)", answers)
+        self.assertIn("w.of-h1.result.len ≡ length w.in-Both.a1.items = grind (arith, w.of-h1.ensures, w.len-in-Both.ensures)", answers)
+        self.assertIn("w.resolve_named_case_2.new.place.0", answers)
+        self.assertIn("  | in-One+in-One-resolver w ↦ search rules\n", answers)
+
+    def test_others_are_left_to_the_search(self):
+        self.assertEqual(self.run_command(self.put(TOWN)), (0, ""))
+        self.assertEqual([os.path.exists(self.place(name)) for name in ("Town", "Way")], [True, False])
