@@ -9,7 +9,7 @@ from .slices import is_shared_slice
 from .term_words import is_run
 from . import write_proofs
 
-# Of each variant that search finds.
+# What finds the rest, and what a variant of no fields comes to.
 FOUND = "search rules"
 
 
@@ -75,8 +75,8 @@ def files(it):
         step = f"in-{case.name}+in-{case.name}-resolver" if case.count else f"in-{case.name}"
         named = [(word, of, name) for (other, word, of), name in zip(made, names) if other is case]
         steps.append(step)
-        arms += f"  | {step} w ↦ {arm(it, case, named) if any(has_flavor(it, type) for type in case.types) else FOUND}\n"
-    opens = [f"{case.n}_opens" for case in it.cases if any(has_flavor(it, type) for type in case.types)]
+        arms += f"  | {step} w ↦ {arm(it, case, named) if case.count else FOUND}\n"
+    opens = [f"{case.n}_opens" for case in it.cases if case.count]
     module = it.declaration.module
     goals = ".".join(("Rattle", it.declaration.crate, "proofs") + tuple(module) + (f"{it.name}Archive", "resolve", "Goals"))
     text = f"""-- {it.written}

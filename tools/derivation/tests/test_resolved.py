@@ -39,7 +39,7 @@ class Resolved(RepositoryTest):
         self.assertIn("w.of-h0.result.len ≡ length w.in-All.a0.items = grind (arith, w.of-h0.ensures, w.len.ensures)", answers)
         self.assertIn("w.of-h1.result.len ≡ length w.in-Both.a1.items = grind (arith, w.of-h1.ensures, w.len-in-Both.ensures)", answers)
         self.assertIn("w.resolve_named_case_2.new.place.0", answers)
-        self.assertIn("  | in-One+in-One-resolver w ↦ search rules\n", answers)
+        self.assertIn("let there = rw (w.new-in-One.ensures.position) at w.resolve_named_case_1-in-One.ensures", answers)
 
     def test_others_are_left_to_the_search(self):
         self.assertEqual(self.run_command(self.put(TOWN)), (0, ""))
