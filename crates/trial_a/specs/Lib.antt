@@ -1,0 +1,2 @@
+pub mod PlaceMeaning
+pub mod PlaceShape

@@ -1,0 +1,6 @@
+//! Trial.
+#![tactic(auto)]
+
+pub mod road;
+#[cfg(test)]
+mod tests;

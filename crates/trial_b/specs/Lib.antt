@@ -1,0 +1,2 @@
+pub mod ElmMeaning
+pub mod ElmShape

@@ -1,0 +1,6 @@
+//! Trial.
+#![tactic(auto)]
+
+pub mod elm;
+#[cfg(test)]
+mod tests;

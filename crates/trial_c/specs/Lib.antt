@@ -1,0 +1,2 @@
+pub mod OakMeaning
+pub mod OakShape

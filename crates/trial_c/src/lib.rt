@@ -1,0 +1,6 @@
+//! Trial.
+#![tactic(auto)]
+
+pub mod oak;
+#[cfg(test)]
+mod tests;

@@ -1,0 +1,2 @@
+pub mod AshMeaning
+pub mod AshShape

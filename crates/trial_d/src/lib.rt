@@ -1,0 +1,6 @@
+//! Trial.
+#![tactic(auto)]
+
+pub mod ash;
+#[cfg(test)]
+mod tests;

@@ -1,0 +1,2 @@
+pub mod ShelfMeaning
+pub mod ShelfShape

@@ -1,0 +1,6 @@
+//! Trial.
+#![tactic(auto)]
+
+pub mod shelf;
+#[cfg(test)]
+mod tests;

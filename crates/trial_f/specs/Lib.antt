@@ -1,0 +1,2 @@
+pub mod TownMeaning
+pub mod TownShape

@@ -1,0 +1,6 @@
+//! Trial.
+#![tactic(auto)]
+
+pub mod town;
+#[cfg(test)]
+mod tests;

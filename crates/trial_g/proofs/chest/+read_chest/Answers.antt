@@ -1,0 +1,74 @@
+-- Written by tools/derive: change the declaration, and run it again.
+use Rattle.archive_core.proofs.Causes.{err_by, err_from}
+use Rattle.archive_core.proofs.OwnersRead.{box_read, box_unread}
+use Rattle.archive_core.proofs.PooledPointers.{shared_back, shared_unread}
+use Rattle.archive_core.proofs.PooledReading.{kept_refused}
+use Rattle.archive_core.proofs.ReadChoices.{variant_read_back, variant_refuses}
+use Rattle.archive_core.proofs.ReadElements.{all_have, elements_more, elements_all, element_refused}
+use Rattle.archive_core.proofs.ReadRecords.{record_read_back, record_refuses, first_refuses, later_refuses}
+use Rattle.archive_core.proofs.fields.Ties.{if_ok}
+use Rattle.archive_core.specs.Definitions.{both, no_definition}
+use Rattle.archive_core.specs.Held.{read_as}
+use Rattle.archive_core.specs.PartsReading.{part_read_back, no_part_read_back}
+use Rattle.archive_core.specs.Runs.{each_keys, each_meaning}
+use Rattle.archive_core.specs.Shape.{boxed, shared, one, run, leaf, unsigned, part, no_part, number as number_kind}
+use Rattle.archive_core.specs.SharedSources.{rc_flavor, rc_keys}
+use Rattle.archive_core.specs.Value.{list, value}
+use Rattle.std.proofs.Common.{inl, ◌≡◌, ◌<◌, ◌+◌, ◌++◌, ◌∷◌, [], length, refl, arith, pos}
+use Rattle.std.proofs.lemmas.Grind.{common_steps}
+use Rattle.std.specs.Int.{w8}
+use Rattle.std.specs.Prelude.{[], ◌++◌, ◌≡◌, refl, pos, length}
+use Rattle.trial_g.specs.ChestMeaning.{chest_keys, chest_means_roll, chest_has_keys_roll, thing_meaning, thing_keys, thing_inner_means, thing_inner_has_keys, thing_pack_means, thing_pack_has_keys}
+use Rattle.trial_g.specs.ChestShape.{chest_shape, chest_definitions, chest_parts, chest_part_definitions, chest_has_parts, thing_layout, thing_has_layout, thing_name, thing_shape, thing_definitions, thing_variants, thing_variant_definitions, thing_has_variants, thing_inner_parts, thing_inner_definitions, thing_pack_parts, thing_pack_definitions}
+use Rattle.trial_g.proofs.chest.+read_chest.Goals as goal
+
+pub read_items_thing-returns-in-Err-clause-refused : goal.read_items_thing-returns-in-Err-clause-refused
+read_items_thing-returns-in-Err-clause-refused g t c = (let kept = c.loop-index.invariant in let b = c.at-list.result.bytes.now in let q = c.at-list.result.pos in let n = c.at-list.result.len in let below : c.loop-index.index < n = omega (arith, c.loop-index-test.true, c.loop-index.auto.index-end, c.len-index-end.ensures) in let h = rw (c.part.ensures.buffer, c.part.ensures.position, c.part.ensures.length, c.index.ensures.buffer, c.index.ensures.position, c.index.ensures.length) at c.in-Err.ensures.refused in let r = element_refused chest_definitions thing_shape thing_layout thing_has_layout b q (run thing_shape) n n (all_have chest_definitions thing_shape thing_layout thing_has_layout b q n (run thing_shape) n (inl (refl, refl))) thing_meaning thing_keys (g.D.Entries.entry_of c.args.deserializer.now) (g.D.Entries.entry_of c.loop-index.deserializer) c.loop-index.items.items c.loop-index.index (one thing_shape) c.in-Err.error refl below (kept.3) h in rw (c.at-list.ensures.buffer, c.at-list.ensures.position, c.at-list.ensures.length) at r)
+
+pub read_items_thing-loop-index-preserved : goal.read_items_thing-loop-index-preserved
+read_items_thing-loop-index-preserved g t c = (let kept = c.loop-index.invariant in let b = c.at-list.result.bytes.now in let q = c.at-list.result.pos in let n = c.at-list.result.len in let below : c.loop-index.index < n = omega (arith, c.loop-index-test.true, c.loop-index.auto.index-end, c.len-index-end.ensures) in let pushed : c.push_reserved.new.self.items ≡ c.loop-index.items.items ++ c.in-Ok.item ∷ [] = grind (arith, common_steps) in let more : length (c.loop-index.items.items ++ c.in-Ok.item ∷ []) ≡ c.loop-index.index + 1 = grind (arith, common_steps, kept.0) in let h = rw (c.part.ensures.buffer, c.part.ensures.position, c.part.ensures.length, c.index.ensures.buffer, c.index.ensures.position, c.index.ensures.length) at c.in-Ok.ensures.read in rw pushed (more, grind (arith, common_steps, kept.1), grind (arith, common_steps, kept.2), elements_more chest_definitions thing_shape thing_layout thing_has_layout b q (run thing_shape) n n (all_have chest_definitions thing_shape thing_layout thing_has_layout b q n (run thing_shape) n (inl (refl, refl))) thing_meaning thing_keys (g.D.Entries.entry_of c.args.deserializer.now) (g.D.Entries.entry_of c.loop-index.deserializer) (g.D.Entries.entry_of c.read_thing.new.deserializer) c.loop-index.items.items c.in-Ok.item c.loop-index.index (one thing_shape) refl kept.0 below (kept.3) h))
+
+pub read_items_thing-returns-clause-read : goal.read_items_thing-returns-clause-read
+read_items_thing-returns-clause-read g t c = (let kept = c.loop-index.invariant in let b = c.at-list.result.bytes.now in let q = c.at-list.result.pos in let n = c.at-list.result.len in let whole : length c.loop-index.items.items ≡ n = omega (arith, kept.0, c.loop-index-test.false, c.loop-index.auto.index-end, c.len-index-end.ensures) in let r = elements_all chest_definitions thing_shape thing_layout thing_has_layout b q (run thing_shape) n n (all_have chest_definitions thing_shape thing_layout thing_has_layout b q n (run thing_shape) n (inl (refl, refl))) thing_meaning thing_keys (g.D.Entries.entry_of c.args.deserializer.now) (g.D.Entries.entry_of c.loop-index.deserializer) c.loop-index.items.items whole (kept.3) in rw (c.at-list.ensures.buffer, c.at-list.ensures.position, c.at-list.ensures.length) at r)
+
+pub read_shared_slice_thing-returns-in_err-value-clause-refused : goal.read_shared_slice_thing-returns-in_err-value-clause-refused
+read_shared_slice_thing-returns-in_err-value-clause-refused g t c = err_by c.from_residual.result c.in_err-value.field-0.0 _ c.from_residual.ensures.1 (shared_unread chest_definitions c.args.part.bytes.now c.args.part.pos c.args.part.len rc_flavor (run thing_shape) _ _ c.requires (rw (c.part-behind.ensures.buffer, c.part-behind.ensures.position, c.part-behind.ensures.length, c.get.ensures.buffer, c.get.ensures.position, c.get.ensures.length, c.at-view.ensures.buffer, c.at-view.ensures.position) at (c.in_err-value.ensures.refused c.part-behind.result.bytes.now c.part-behind.result.len)))
+
+pub read_shared_slice_thing-returns-in-Some-clause-read : goal.read_shared_slice_thing-returns-in-Some-clause-read
+read_shared_slice_thing-returns-in-Some-clause-read g t c = shared_back chest_definitions c.args.part.bytes.now c.args.part.pos c.args.part.len rc_flavor (run thing_shape) _ _ _ c.requires (rw (c.part-behind.ensures.buffer, c.part-behind.ensures.position, c.part-behind.ensures.length, c.get.ensures.buffer, c.get.ensures.position, c.get.ensures.length, c.at-view.ensures.buffer, c.at-view.ensures.position) at ((rw c.in-Some.is at c.in_ok-value.ensures.known) c.part-behind.result.bytes.now c.part-behind.result.len))
+
+pub read_shared_slice_thing-returns-in_err-value-in-None-clause-refused : goal.read_shared_slice_thing-returns-in_err-value-in-None-clause-refused
+read_shared_slice_thing-returns-in_err-value-in-None-clause-refused g t c = err_by c.from_residual-in_err-value-in-None.result c.in_err-value-in-None.field-0.0 _ c.from_residual-in_err-value-in-None.ensures.1 (shared_unread chest_definitions c.args.part.bytes.now c.args.part.pos c.args.part.len rc_flavor (run thing_shape) _ _ c.requires (rw (c.part-behind.ensures.buffer, c.part-behind.ensures.position, c.part-behind.ensures.length, c.get.ensures.buffer, c.get.ensures.position, c.get.ensures.length, c.at-view.ensures.buffer, c.at-view.ensures.position) at (let a = (rw c.in-None.is at c.in_ok-value.ensures.begun) in kept_refused chest_definitions c.part-behind.result.bytes.now c.part-behind.result.pos (run thing_shape) c.part-behind.result.len g.D.Entries.keeps _ _ _ a.nothing a.begun a.started a.unknown c.in_err-value-in-None.ensures.refused)))
+
+pub read_shared_slice_thing-returns-in_ok-value-in-None-clause-read : goal.read_shared_slice_thing-returns-in_ok-value-in-None-clause-read
+read_shared_slice_thing-returns-in_ok-value-in-None-clause-read g t c = if_ok c.finish_target.result (λ s h. shared_back chest_definitions c.args.part.bytes.now c.args.part.pos c.args.part.len rc_flavor (run thing_shape) _ _ _ c.requires (rw (c.part-behind.ensures.buffer, c.part-behind.ensures.position, c.part-behind.ensures.length, c.get.ensures.buffer, c.get.ensures.position, c.get.ensures.length, c.at-view.ensures.buffer, c.at-view.ensures.position) at (h _ _ c.part-behind.result.bytes.now c.part-behind.result.len (rw c.in-None.is at c.in_ok-value.ensures.begun) c.part-behind.ensures.viewed c.in_ok-value-in-None.ensures.read))) c.finish_target.ensures.read
+
+pub read_shared_slice_thing-returns-in_ok-value-in-None-clause-refused : goal.read_shared_slice_thing-returns-in_ok-value-in-None-clause-refused
+read_shared_slice_thing-returns-in_ok-value-in-None-clause-refused g t c = err_from c.finish_target.result c.finish_target.ensures.refused (λ e h. inl (h _ _ c.part-behind.result.bytes.now c.part-behind.result.len (rw c.in-None.is at c.in_ok-value.ensures.begun) c.in_ok-value-in-None.ensures.read))
+
+pub read_chest-returns-in-Err-clause-refused : goal.read_chest-returns-in-Err-clause-refused
+read_chest-returns-in-Err-clause-refused g t c = (record_refuses chest_definitions chest_shape chest_part_definitions chest_parts chest_has_parts _ _ _ _ _ (first_refuses no_definition (both chest_definitions no_definition) (leaf (number_kind unsigned w8)) (record { size = 1; align = 1 }) (record { solved = λ s k. refl }) (part (shared rc_flavor (run thing_shape)) no_part) _ _ 0 _ _ (rw (c.part_of_record-p0.ensures.buffer, c.part_of_record-p0.ensures.position, c.part_of_record-p0.ensures.length) at c.in-Err.ensures.refused)))
+
+pub read_chest-returns-in-Err-read_shared_slice_thing-clause-refused : goal.read_chest-returns-in-Err-read_shared_slice_thing-clause-refused
+read_chest-returns-in-Err-read_shared_slice_thing-clause-refused g t c = (record_refuses chest_definitions chest_shape chest_part_definitions chest_parts chest_has_parts _ _ _ _ _ (later_refuses no_definition (both chest_definitions no_definition) (leaf (number_kind unsigned w8)) (record { size = 1; align = 1 }) (record { solved = λ s k. refl }) (part (shared rc_flavor (run thing_shape)) no_part) _ _ 0 _ _ _ c.in-Ok.ensures.read.kept (first_refuses chest_definitions no_definition (shared rc_flavor (run thing_shape)) (record { size = 8; align = 4 }) (record { solved = λ s k. refl }) no_part _ _ 1 _ _ (rw (c.part_of_record-p1.ensures.buffer, c.part_of_record-p1.ensures.position, c.part_of_record-p1.ensures.length) at c.in-Err-read_shared_slice_thing.ensures.refused))))
+
+pub read_chest-returns-clause-read : goal.read_chest-returns-clause-read
+read_chest-returns-clause-read g t c = read_as (chest_has_keys_roll (record { id = c.in-Ok.a0; things = c.in-Ok-read_shared_slice_thing.a1 })) (chest_means_roll (record { id = c.in-Ok.a0; things = c.in-Ok-read_shared_slice_thing.a1 })) (record_read_back chest_definitions chest_shape chest_part_definitions chest_parts chest_has_parts _ _ _ _ _ _ _ (part_read_back {L = (record { size = 1; align = 1 })} {ks = []} {ls = ((rc_keys c.in-Ok-read_shared_slice_thing.a1.key (run thing_shape) (length c.in-Ok-read_shared_slice_thing.a1.value.items.value.items) (list (each_meaning thing_meaning c.in-Ok-read_shared_slice_thing.a1.value.items.value.items)) (each_keys thing_keys c.in-Ok-read_shared_slice_thing.a1.value.items.value.items)) ++ [])} (record { solved = λ s k. refl }) (rw (c.part_of_record-p0.ensures.buffer, c.part_of_record-p0.ensures.position, c.part_of_record-p0.ensures.length) at c.in-Ok.ensures.read) (part_read_back {L = (record { size = 8; align = 4 })} {ks = (rc_keys c.in-Ok-read_shared_slice_thing.a1.key (run thing_shape) (length c.in-Ok-read_shared_slice_thing.a1.value.items.value.items) (list (each_meaning thing_meaning c.in-Ok-read_shared_slice_thing.a1.value.items.value.items)) (each_keys thing_keys c.in-Ok-read_shared_slice_thing.a1.value.items.value.items))} {ls = []} (record { solved = λ s k. refl }) (rw (c.part_of_record-p1.ensures.buffer, c.part_of_record-p1.ensures.position, c.part_of_record-p1.ensures.length) at c.in-Ok-read_shared_slice_thing.ensures.read) no_part_read_back)))
+
+pub read_box_chest-returns-in-Err-clause-refused : goal.read_box_chest-returns-in-Err-clause-refused
+read_box_chest-returns-in-Err-clause-refused g t c = box_unread thing_definitions c.args.part.bytes.now c.args.part.pos c.args.part.len (one chest_shape) (g.D.Entries.entry_of c.args.deserializer.now) c.in-Err.error c.requires (rw (c.part.ensures.buffer, c.part.ensures.position, c.part.ensures.length, c.before_box.ensures.buffer, c.before_box.ensures.position, c.before_box.ensures.length, c.at-view.ensures.buffer, c.at-view.ensures.position) at c.in-Err.ensures.refused)
+
+pub read_box_chest-returns-clause-read : goal.read_box_chest-returns-clause-read
+read_box_chest-returns-clause-read g t c = (let same : c.in_ok-whole.whole.value ≡ c.in-Ok.value = grind (arith, common_steps) in rw same (box_read thing_definitions c.args.part.bytes.now c.args.part.pos c.args.part.len (one chest_shape) _ _ _ _ c.requires (rw (c.part.ensures.buffer, c.part.ensures.position, c.part.ensures.length, c.before_box.ensures.buffer, c.before_box.ensures.position, c.before_box.ensures.length, c.at-view.ensures.buffer, c.at-view.ensures.position) at c.in-Ok.ensures.read)))
+
+pub read_thing_inner-returns-in-Err-clause-refused : goal.read_thing_inner-returns-in-Err-clause-refused
+read_thing_inner-returns-in-Err-clause-refused g t c = (variant_refuses thing_definitions thing_shape thing_name thing_variant_definitions thing_variants thing_has_variants 1 thing_inner_parts refl thing_inner_definitions refl _ _ _ c.requires.tag _ _ (first_refuses thing_definitions no_definition (boxed (one chest_shape)) (record { size = 4; align = 4 }) (record { solved = λ s k. refl }) no_part _ _ 1 _ _ (rw (c.part_of_variant-p0.ensures.buffer, c.part_of_variant-p0.ensures.position, c.part_of_variant-p0.ensures.length) at c.in-Err.ensures.refused)))
+
+pub read_thing_inner-returns-clause-read : goal.read_thing_inner-returns-clause-read
+read_thing_inner-returns-clause-read g t c = read_as (thing_inner_has_keys c.in-Ok.a0) (thing_inner_means c.in-Ok.a0) (variant_read_back thing_definitions thing_shape thing_name thing_variant_definitions thing_variants thing_has_variants 1 thing_inner_parts refl thing_inner_definitions refl _ _ _ c.requires.tag _ _ _ _ (part_read_back {L = (record { size = 4; align = 4 })} {ks = (chest_keys c.in-Ok.a0.value)} {ls = []} (record { solved = λ s k. refl }) (rw (c.part_of_variant-p0.ensures.buffer, c.part_of_variant-p0.ensures.position, c.part_of_variant-p0.ensures.length) at c.in-Ok.ensures.read) no_part_read_back))
+
+pub read_thing_pack-returns-in-Err-clause-refused : goal.read_thing_pack-returns-in-Err-clause-refused
+read_thing_pack-returns-in-Err-clause-refused g t c = (variant_refuses thing_definitions thing_shape thing_name thing_variant_definitions thing_variants thing_has_variants 2 thing_pack_parts refl thing_pack_definitions refl _ _ _ c.requires.tag _ _ (first_refuses thing_definitions no_definition (shared rc_flavor (run thing_shape)) (record { size = 8; align = 4 }) (record { solved = λ s k. refl }) no_part _ _ 1 _ _ (rw (c.part_of_variant-p0.ensures.buffer, c.part_of_variant-p0.ensures.position, c.part_of_variant-p0.ensures.length) at c.in-Err.ensures.refused)))
+
+pub read_thing_pack-returns-clause-read : goal.read_thing_pack-returns-clause-read
+read_thing_pack-returns-clause-read g t c = read_as (thing_pack_has_keys c.in-Ok.a0) (thing_pack_means c.in-Ok.a0) (variant_read_back thing_definitions thing_shape thing_name thing_variant_definitions thing_variants thing_has_variants 2 thing_pack_parts refl thing_pack_definitions refl _ _ _ c.requires.tag _ _ _ _ (part_read_back {L = (record { size = 8; align = 4 })} {ks = (rc_keys c.in-Ok.a0.key (run thing_shape) (length c.in-Ok.a0.value.items.value.items) (list (each_meaning thing_meaning c.in-Ok.a0.value.items.value.items)) (each_keys thing_keys c.in-Ok.a0.value.items.value.items))} {ls = []} (record { solved = λ s k. refl }) (rw (c.part_of_variant-p0.ensures.buffer, c.part_of_variant-p0.ensures.position, c.part_of_variant-p0.ensures.length) at c.in-Ok.ensures.read) no_part_read_back))

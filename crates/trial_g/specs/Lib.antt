@@ -1,0 +1,2 @@
+pub mod ChestMeaning
+pub mod ChestShape

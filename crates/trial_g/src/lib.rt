@@ -1,0 +1,6 @@
+//! Trial.
+#![tactic(auto)]
+
+pub mod chest;
+#[cfg(test)]
+mod tests;

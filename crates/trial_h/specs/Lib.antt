@@ -1,0 +1,2 @@
+pub mod AllMeaning
+pub mod AllShape

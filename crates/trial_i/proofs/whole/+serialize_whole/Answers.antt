@@ -1,0 +1,358 @@
+-- Written by tools/derive: change the declaration, and run it again.
+use Rattle.archive_core.proofs.Causes.{err_by, goes_both, goes_nowhere, explains_sooner}
+use Rattle.archive_core.proofs.Owners.{vec_refused}
+use Rattle.archive_core.proofs.Planned.{one_owned}
+use Rattle.archive_core.proofs.PlannedParts.{serialized_no_part, serialized_part, serialized_record, record_refused, first_refused, later_refused}
+use Rattle.archive_core.proofs.RunRegions.{run_owned, long_run_refused}
+use Rattle.archive_core.proofs.Runs.{continues_step, continues_broken, continues_end, belongs_end}
+use Rattle.archive_core.proofs.WrittenVariants.{serialized_case, serialized_empty_case, case_refused}
+use Rattle.archive_core.proofs.recursive.KeysBegun.{region_refused}
+use Rattle.archive_core.specs.Causes.{no_memory, ValuePart, part_itself, HindersPart, stands_too_far, owner_shared, owner_weak, shared_too_long, shared_owner, weak_owner, IsRefused}
+use Rattle.archive_core.specs.Choices.{option_shape}
+use Rattle.archive_core.specs.Definitions.{Definitions, both, no_definition}
+use Rattle.archive_core.specs.Denotes.{Naming, fills_null}
+use Rattle.archive_core.specs.Error.{Error}
+use Rattle.archive_core.specs.Error.TheVariants.{OutOfMemory}
+use Rattle.archive_core.specs.Held.{written_as, refused_as}
+use Rattle.archive_core.specs.Options.{option_keys, option_meaning, option_planned}
+use Rattle.archive_core.specs.PartsPlanned.{part_planned, no_part_planned}
+use Rattle.archive_core.specs.PlannedOwners.{vec_planned, slice_planned, each_planned}
+use Rattle.archive_core.specs.Plans.{Serialized, serialized, cursor, plans_null}
+use Rattle.archive_core.specs.Reads.{SchemaTable}
+use Rattle.archive_core.specs.Runs.{each_keys, each_meaning}
+use Rattle.archive_core.specs.Shape.{Shape, named, choice, shared, weak, vec, one, run, part, no_part, variant, no_variant, Pointee}
+use Rattle.archive_core.specs.SharedLaws.{weak_value, weak_planned, as_weak}
+use Rattle.archive_core.specs.SharedSources.{rc_flavor, rc_keys, rc_one_planned, rc_planned}
+use Rattle.archive_core.specs.Value.{Value, case, list, value, no_value, null, shared_value}
+use Rattle.archive_core.specs.WriterState.{WriterState}
+use Rattle.std.proofs.Common.{inl, inr, ◌≡◌, ◌<◌, ◌++◌, [], ℕ, List, length, refl, arith, ⊎_elim}
+use Rattle.std.proofs.Math.ListN.{drop_of_length-le}
+use Rattle.std.proofs.lemmas.Grind.{common_steps}
+use Rattle.std.specs.Prelude.{ℕ, List, [], ◌++◌, ◌≡◌, refl, length, codes, None, Some}
+use Rattle.trial_i.proofs.whole.+serialize_whole.Goals.{serialize_each_weak_shared_whole-in-None+in_ok-map_err-in-None, serialize_each_weak_shared_whole-in-Some+in-Ok+in_ok-map_err-in-Some, serialize_each_option_shared_whole-in-None+in_ok-map_err-in-None, serialize_each_option_shared_whole-in-Some+in-Ok+in_ok-map_err-in-Some, serialize_each_shared_whole-in-Some+in_ok-map_err-in-Some, serialize_each_shared_whole-in-None+in-Ok-serialize_whole+in-Ok-finish_shared+in_ok-map_err-in-None}
+use Rattle.trial_i.specs.WholeMeaning.{whole_meaning, whole_keys, whole_planned, whole_means, whole_has_keys}
+use Rattle.trial_i.specs.WholeShape.{whole_shape, whole_definitions, whole_parts, whole_part_definitions, whole_has_parts}
+use Rattle.trial_i.specs.declared.whole.Whole.{out-Whole}
+use Rattle.trial_i.proofs.whole.+serialize_whole.Goals as goal
+
+weak_serialized : (D : Definitions) (P : Pointee) (ks : List Naming) (v flat : Value) (old new : WriterState) → Serialized D (shared rc_flavor P) ks v flat old new → Serialized D (weak rc_flavor P) ks v flat old new
+weak_serialized D P ks v flat old new (serialized writes planned) = serialized writes (λ below s names k m. (
+    let q = planned below s names k m in
+    record { flat = q.flat; steps = q.steps; stop = q.stop; plans = as_weak q.plans; such = q.such }))
+
+null_serialized : (D : Definitions) (P : Pointee) (w : WriterState) → Serialized D (weak rc_flavor P) [] null null w w
+null_serialized D P w = as_null (serialized_empty_case D (codes "") (variant no_part no_variant) 0 refl w)
+  where
+    as_null : Serialized D (choice (codes "") (variant no_part no_variant)) [] (case 0 no_value) (case 0 no_value) w w → Serialized D (weak rc_flavor P) [] null null w w
+    as_null (serialized writes planned) = serialized
+        (record { added = writes.added; grown = writes.grown; states = writes.states; finished = λ k n. elim n [ ]; appends = writes.appends; fills = λ x c. fills_null })
+        (λ below s names k n. record { flat = null; steps = []; stop = cursor w; plans = plans_null; such = (refl, record { position = refl; keys = λ key. refl }) })
+
+weak_part : {s : SchemaTable} {P : Pointee} {v : Value} {o : ℕ} {Y : Shape} {w : Value} {e : Error} → ValuePart s (shared rc_flavor P) v o Y w → HindersPart Y w e
+    → (Z : Shape) × ValuePart s (weak rc_flavor P) v o Z w × HindersPart Z w e
+weak_part {P = P} part_itself (stands_too_far owner_shared there far) = (weak rc_flavor P, part_itself, stands_too_far owner_weak there far)
+weak_part {P = P} part_itself (shared_too_long shared_owner long) = (weak rc_flavor P, part_itself, shared_too_long weak_owner long)
+
+weak_refused : (D : Definitions) (P : Pointee) (ks : List Naming) (v : Value) (old new : WriterState) (e : Error) → IsRefused D (shared rc_flavor P) ks v old new e → IsRefused D (weak rc_flavor P) ks v old new e
+weak_refused D P ks v old new e h = explains_sooner _ _ _ _ old new e
+    (λ x. record {
+      named = x.named;
+      cause = λ below s names k m. (
+          let q = x.cause below s names k m in
+          record {
+            flat = q.flat;
+            steps = q.steps;
+            stop = q.stop;
+            plans = as_weak q.plans;
+            such = ⊎_elim inl (λ y. (let z = weak_part y.3 y.4 in inr (y.0, z.0, y.2, z.1, z.2))) q.such;
+          });
+    })
+    (λ m x below s names k l. (let q = x below s names k l in record { flat = q.flat; steps = q.steps; stop = q.stop; plans = as_weak q.plans; such = q.such })) h
+
+pub serialize_weak_shared_whole-returns-in-None-clause-serialized : goal.serialize_weak_shared_whole-returns-in-None-clause-serialized
+serialize_weak_shared_whole-returns-in-None-clause-serialized g t c = rw c.in-None.is (null_serialized whole_definitions (one whole_shape) _)
+
+pub serialize_weak_shared_whole-returns-in-Err-clause-refused : goal.serialize_weak_shared_whole-returns-in-Err-clause-refused
+serialize_weak_shared_whole-returns-in-Err-clause-refused g t c = rw c.in-Some.is (weak_refused whole_definitions (one whole_shape) _ _ _ _ _ (c.in-Err.ensures.refused.said whole_definitions rc_flavor (one whole_shape) 0 (whole_keys c.in-Some.whole.value.value) (whole_meaning c.in-Some.whole.value.value)))
+
+pub serialize_weak_shared_whole-returns-in-Err-serialize_whole-clause-goes_on : goal.serialize_weak_shared_whole-returns-in-Err-serialize_whole-clause-goes_on
+serialize_weak_shared_whole-returns-in-Err-serialize_whole-clause-goes_on g t c = (goes_both _ _ _ c.begin_shared.ensures.goes_on c.serialize_whole.ensures.goes_on)
+
+pub serialize_weak_shared_whole-returns-in-Err-serialize_whole-clause-refused : goal.serialize_weak_shared_whole-returns-in-Err-serialize_whole-clause-refused
+serialize_weak_shared_whole-returns-in-Err-serialize_whole-clause-refused g t c = rw c.in-Some.is (weak_refused whole_definitions (one whole_shape) _ _ _ _ _ (let same : c.deref-inner.result.now ≡ c.in-Some.whole.value.value = grind (arith, common_steps) in rw (← same) (region_refused whole_definitions (one whole_shape) 0 c.in-Some.whole.key _ _ rc_flavor _ _ _ _ (rw c.in-None-known.is at c.in-Ok.ensures.begun) c.serialize_whole.ensures.goes_on (one_owned whole_definitions whole_shape _ _ _ _ _ c.in-Err-serialize_whole.ensures.refused))))
+
+pub serialize_weak_shared_whole-returns-in-Err-finish_shared-clause-goes_on : goal.serialize_weak_shared_whole-returns-in-Err-finish_shared-clause-goes_on
+serialize_weak_shared_whole-returns-in-Err-finish_shared-clause-goes_on g t c = (c.finish_shared.ensures.goes_on.since _ _ (rw c.in-None-known.is at c.in-Ok.ensures.begun) c.serialize_whole.ensures.goes_on)
+
+pub serialize_weak_shared_whole-returns-in-Err-finish_shared-clause-refused : goal.serialize_weak_shared_whole-returns-in-Err-finish_shared-clause-refused
+serialize_weak_shared_whole-returns-in-Err-finish_shared-clause-refused g t c = rw c.in-Some.is (weak_refused whole_definitions (one whole_shape) _ _ _ _ _ (let same : c.deref-inner.result.now ≡ c.in-Some.whole.value.value = grind (arith, common_steps) in rw (← same) (c.in-Err-finish_shared.ensures.refused.since rc_flavor _ _ (rw c.in-None-known.is at c.in-Ok.ensures.begun) c.serialize_whole.ensures.goes_on c.in-Ok-serialize_whole.ensures.serialized)))
+
+pub serialize_weak_shared_whole-returns-in-Some-known-clause-serialized : goal.serialize_weak_shared_whole-returns-in-Some-known-clause-serialized
+serialize_weak_shared_whole-returns-in-Some-known-clause-serialized g t c = rw c.in-Some.is (weak_serialized whole_definitions (one whole_shape) _ _ _ _ _ ((rw c.in-Some-known.is at c.in-Ok.ensures.known).said whole_definitions rc_flavor (one whole_shape) 0 (whole_keys c.in-Some.whole.value.value) (whole_meaning c.in-Some.whole.value.value)))
+
+pub serialize_weak_shared_whole-returns-in-Ok-finish_shared-clause-serialized : goal.serialize_weak_shared_whole-returns-in-Ok-finish_shared-clause-serialized
+serialize_weak_shared_whole-returns-in-Ok-finish_shared-clause-serialized g t c = rw c.in-Some.is (weak_serialized whole_definitions (one whole_shape) _ _ _ _ _ (let same : c.deref-inner.result.now ≡ c.in-Some.whole.value.value = grind (arith, common_steps) in rw (← same) (c.in-Ok-finish_shared.ensures.shared.since rc_flavor _ _ (rw c.in-None-known.is at c.in-Ok.ensures.begun) c.serialize_whole.ensures.goes_on c.in-Ok-serialize_whole.ensures.serialized)))
+
+pub serialize_weak_shared_whole-returns-in-Ok-finish_shared-clause-goes_on : goal.serialize_weak_shared_whole-returns-in-Ok-finish_shared-clause-goes_on
+serialize_weak_shared_whole-returns-in-Ok-finish_shared-clause-goes_on g t c = (c.finish_shared.ensures.goes_on.since _ _ (rw c.in-None-known.is at c.in-Ok.ensures.begun) c.serialize_whole.ensures.goes_on)
+
+pub serialize_each_weak_shared_whole-returns-in_err-resolvers-clause-refused : goal.serialize_each_weak_shared_whole-returns-in_err-resolvers-clause-refused
+serialize_each_weak_shared_whole-returns-in_err-resolvers-clause-refused g t c = err_by c.from_residual.result OutOfMemory _ c.from_residual.ensures.1 no_memory
+
+pub serialize_each_weak_shared_whole-returns-in-Err-clause-goes_on : goal.serialize_each_weak_shared_whole-returns-in-Err-clause-goes_on
+serialize_each_weak_shared_whole-returns-in-Err-clause-goes_on g t c = goes_both _ _ _ c.loop-value.invariant.continues.goes c.serialize_keyed_whole.ensures.goes_on
+
+pub serialize_each_weak_shared_whole-returns-in-Err-clause-refused : goal.serialize_each_weak_shared_whole-returns-in-Err-clause-refused
+serialize_each_weak_shared_whole-returns-in-Err-clause-refused g t c = continues_broken _ _ _ _ _ _ _ _ _ _ c.loop-value.value-index _ _ _ c.loop-value-test.true c.value-item.is (λ y. (weak_planned whole_definitions rc_flavor (one whole_shape) (λ s. (rc_keys s.key (one whole_shape) 0 (whole_meaning s.value.value) (whole_keys s.value.value))) (λ s. (shared_value s.key)) (λ s. (rc_one_planned whole_definitions s.key (one whole_shape) whole_shape refl _ _ (whole_planned s.value.value))) y.value)) c.loop-value.invariant.continues c.serialize_keyed_whole.ensures.goes_on (let same : c.deref-inner.result.now ≡ c.in-Some.whole.value.value = grind (arith, common_steps) in rw (c.in-Some.is, ← same) (weak_refused whole_definitions (one whole_shape) _ _ _ _ _ c.in-Err.ensures.refused))
+
+pub serialize_keyed_whole-returns-in-Err-clause-refused : goal.serialize_keyed_whole-returns-in-Err-clause-refused
+serialize_keyed_whole-returns-in-Err-clause-refused g t c = (c.in-Err.ensures.refused.said whole_definitions rc_flavor (one whole_shape) 0 (whole_keys c.args.value.now) (whole_meaning c.args.value.now))
+
+pub serialize_keyed_whole-returns-in-Err-serialize_whole-clause-goes_on : goal.serialize_keyed_whole-returns-in-Err-serialize_whole-clause-goes_on
+serialize_keyed_whole-returns-in-Err-serialize_whole-clause-goes_on g t c = (goes_both _ _ _ c.begin_shared.ensures.goes_on c.serialize_whole.ensures.goes_on)
+
+pub serialize_keyed_whole-returns-in-Err-serialize_whole-clause-refused : goal.serialize_keyed_whole-returns-in-Err-serialize_whole-clause-refused
+serialize_keyed_whole-returns-in-Err-serialize_whole-clause-refused g t c = ((region_refused whole_definitions (one whole_shape) 0 c.args.key _ _ rc_flavor _ _ _ _ (rw c.in-None.is at c.in-Ok.ensures.begun) c.serialize_whole.ensures.goes_on (one_owned whole_definitions whole_shape _ _ _ _ _ c.in-Err-serialize_whole.ensures.refused)))
+
+pub serialize_keyed_whole-returns-in-Err-finish_shared-clause-goes_on : goal.serialize_keyed_whole-returns-in-Err-finish_shared-clause-goes_on
+serialize_keyed_whole-returns-in-Err-finish_shared-clause-goes_on g t c = (c.finish_shared.ensures.goes_on.since _ _ (rw c.in-None.is at c.in-Ok.ensures.begun) c.serialize_whole.ensures.goes_on)
+
+pub serialize_keyed_whole-returns-in-Err-finish_shared-clause-refused : goal.serialize_keyed_whole-returns-in-Err-finish_shared-clause-refused
+serialize_keyed_whole-returns-in-Err-finish_shared-clause-refused g t c = ((c.in-Err-finish_shared.ensures.refused.since rc_flavor _ _ (rw c.in-None.is at c.in-Ok.ensures.begun) c.serialize_whole.ensures.goes_on c.in-Ok-serialize_whole.ensures.serialized))
+
+pub serialize_keyed_whole-returns-in-Some-clause-serialized : goal.serialize_keyed_whole-returns-in-Some-clause-serialized
+serialize_keyed_whole-returns-in-Some-clause-serialized g t c = ((rw c.in-Some.is at c.in-Ok.ensures.known).said whole_definitions rc_flavor (one whole_shape) 0 (whole_keys c.args.value.now) (whole_meaning c.args.value.now))
+
+pub serialize_keyed_whole-returns-in-Ok-finish_shared-clause-serialized : goal.serialize_keyed_whole-returns-in-Ok-finish_shared-clause-serialized
+serialize_keyed_whole-returns-in-Ok-finish_shared-clause-serialized g t c = ((c.in-Ok-finish_shared.ensures.shared.since rc_flavor _ _ (rw c.in-None.is at c.in-Ok.ensures.begun) c.serialize_whole.ensures.goes_on c.in-Ok-serialize_whole.ensures.serialized))
+
+pub serialize_keyed_whole-returns-in-Ok-finish_shared-clause-goes_on : goal.serialize_keyed_whole-returns-in-Ok-finish_shared-clause-goes_on
+serialize_keyed_whole-returns-in-Ok-finish_shared-clause-goes_on g t c = (c.finish_shared.ensures.goes_on.since _ _ (rw c.in-None.is at c.in-Ok.ensures.begun) c.serialize_whole.ensures.goes_on)
+
+pub serialize_each_weak_shared_whole-returns-in_err-resolvers-clause-goes_on : goal.serialize_each_weak_shared_whole-returns-in_err-resolvers-clause-goes_on
+serialize_each_weak_shared_whole-returns-in_err-resolvers-clause-goes_on g t c = goes_nowhere _
+
+pub serialize_each_weak_shared_whole-returns-in_err-map_err-in-None-clause-refused : goal.serialize_each_weak_shared_whole-returns-in_err-map_err-in-None-clause-refused
+serialize_each_weak_shared_whole-returns-in_err-map_err-in-None-clause-refused g t c = err_by c.from_residual-in_err-map_err-in-None.result OutOfMemory _ c.from_residual-in_err-map_err-in-None.ensures.1 no_memory
+
+pub serialize_each_weak_shared_whole-returns-in_err-map_err-in-Some-clause-goes_on : goal.serialize_each_weak_shared_whole-returns-in_err-map_err-in-Some-clause-goes_on
+serialize_each_weak_shared_whole-returns-in_err-map_err-in-Some-clause-goes_on g t c = goes_both _ _ _ c.loop-value.invariant.continues.goes c.serialize_keyed_whole.ensures.goes_on
+
+pub serialize_each_weak_shared_whole-returns-in_err-map_err-in-Some-clause-refused : goal.serialize_each_weak_shared_whole-returns-in_err-map_err-in-Some-clause-refused
+serialize_each_weak_shared_whole-returns-in_err-map_err-in-Some-clause-refused g t c = err_by c.from_residual-in_err-map_err-in-Some.result OutOfMemory _ c.from_residual-in_err-map_err-in-Some.ensures.1 no_memory
+
+pub serialize_each_weak_shared_whole-loop-value-preserved : goal.serialize_each_weak_shared_whole-loop-value-preserved
+serialize_each_weak_shared_whole-loop-value-preserved g t c = record { continues = elim c.match-value.branch [ serialize_each_weak_shared_whole-in-None+in_ok-map_err-in-None w ↦ rw (w.serializer-is, w.resolvers-is) (continues_step _ _ _ _ _ _ _ _ _ _ c.loop-value.value-index _ _ _ None c.loop-value-test.true c.value-item.is (grind (arith, common_steps, w.push.ensures.items, w.map_err.ensures.variant, w.branch-map_err.ensures, w.in_ok-map_err-in-None.is)) c.loop-value.invariant.continues (rw w.in-None.is (null_serialized whole_definitions (one whole_shape) _)) tt (goes_nowhere _)) | serialize_each_weak_shared_whole-in-Some+in-Ok+in_ok-map_err-in-Some w ↦ rw (w.serializer-is, w.resolvers-is) (continues_step _ _ _ _ _ _ _ _ _ _ c.loop-value.value-index _ _ _ (Some w.in-Ok.resolver) c.loop-value-test.true c.value-item.is (grind (arith, common_steps, w.push-in-Some.ensures.items, w.map_err-in-Some.ensures.variant, w.branch-map_err-in-Some.ensures, w.in_ok-map_err-in-Some.is)) c.loop-value.invariant.continues (let same : w.deref-inner.result.now ≡ w.in-Some.whole.value.value = grind (arith, common_steps) in rw (w.in-Some.is, ← same) (weak_serialized whole_definitions (one whole_shape) _ _ _ _ _ w.in-Ok.ensures.serialized)) tt w.serialize_keyed_whole.ensures.goes_on) ] }
+
+pub serialize_each_weak_shared_whole-returns-clause-serialized : goal.serialize_each_weak_shared_whole-returns-clause-serialized
+serialize_each_weak_shared_whole-returns-clause-serialized g t c = continues_end _ _ _ _ _ _ _ _ _ _ _ (drop_of_length-le _ c.loop-value-test.false) c.loop-value.invariant.continues
+
+pub serialize_each_weak_shared_whole-returns-clause-same_values : goal.serialize_each_weak_shared_whole-returns-clause-same_values
+serialize_each_weak_shared_whole-returns-clause-same_values g t c = belongs_end _ _ _ _ _ _ _ _ _ _ _ (drop_of_length-le _ c.loop-value-test.false) c.loop-value.invariant.continues
+
+pub serialize_vec_weak_shared_whole-returns-then-len-clause-refused : goal.serialize_vec_weak_shared_whole-returns-then-len-clause-refused
+serialize_vec_weak_shared_whole-returns-then-len-clause-refused g t c = (let long : 4294967295 < length c.args.value.now.items = (let whole : length c.args.value.now.items ≡ c.len.result = grind (arith, common_steps, c.len.ensures) in omega (arith, c.if-len.true, whole)) in vec_refused whole_definitions (weak rc_flavor (one whole_shape)) (length c.args.value.now.items) (each_keys (λ y. (option_keys (λ s. (rc_keys s.key (one whole_shape) 0 (whole_meaning s.value.value) (whole_keys s.value.value))) y.value)) c.args.value.now.items) (list (each_meaning (λ y. (weak_value (λ s. (shared_value s.key)) y.value)) c.args.value.now.items)) _ _ _ (long_run_refused whole_definitions (weak rc_flavor (one whole_shape)) (length c.args.value.now.items) (each_keys (λ y. (option_keys (λ s. (rc_keys s.key (one whole_shape) 0 (whole_meaning s.value.value) (whole_keys s.value.value))) y.value)) c.args.value.now.items) (each_meaning (λ y. (weak_value (λ s. (shared_value s.key)) y.value)) c.args.value.now.items) _ _ (each_planned whole_definitions (weak rc_flavor (one whole_shape)) (λ y. (option_keys (λ s. (rc_keys s.key (one whole_shape) 0 (whole_meaning s.value.value) (whole_keys s.value.value))) y.value)) (λ y. (weak_value (λ s. (shared_value s.key)) y.value)) (λ y. (weak_planned whole_definitions rc_flavor (one whole_shape) (λ s. (rc_keys s.key (one whole_shape) 0 (whole_meaning s.value.value) (whole_keys s.value.value))) (λ s. (shared_value s.key)) (λ s. (rc_one_planned whole_definitions s.key (one whole_shape) whole_shape refl _ _ (whole_planned s.value.value))) y.value)) c.args.value.now.items) long))
+
+pub serialize_vec_weak_shared_whole-returns-in-Err-clause-refused : goal.serialize_vec_weak_shared_whole-returns-in-Err-clause-refused
+serialize_vec_weak_shared_whole-returns-in-Err-clause-refused g t c = vec_refused whole_definitions (weak rc_flavor (one whole_shape)) (length c.args.value.now.items) (each_keys (λ y. (option_keys (λ s. (rc_keys s.key (one whole_shape) 0 (whole_meaning s.value.value) (whole_keys s.value.value))) y.value)) c.args.value.now.items) (list (each_meaning (λ y. (weak_value (λ s. (shared_value s.key)) y.value)) c.args.value.now.items)) _ _ _ (run_owned whole_definitions (weak rc_flavor (one whole_shape)) (length c.args.value.now.items) (each_keys (λ y. (option_keys (λ s. (rc_keys s.key (one whole_shape) 0 (whole_meaning s.value.value) (whole_keys s.value.value))) y.value)) c.args.value.now.items) (each_meaning (λ y. (weak_value (λ s. (shared_value s.key)) y.value)) c.args.value.now.items) _ _ _ (rw c.as_slice-items.ensures.value at c.in-Err.ensures.refused))
+
+pub serialize_vec_weak_shared_whole-returns-in-Ok-serialize_run-clause-serialized : goal.serialize_vec_weak_shared_whole-returns-in-Ok-serialize_run-clause-serialized
+serialize_vec_weak_shared_whole-returns-in-Ok-serialize_run-clause-serialized g t c = (rw c.as_slice-items.ensures.value at c.in-Ok-serialize_run.ensures.listed).since _ c.serialize_each_weak_shared_whole.ensures.goes_on (rw c.as_slice-items.ensures.value at c.in-Ok.ensures.serialized)
+
+pub serialize_vec_weak_shared_whole-returns-in-Ok-serialize_run-clause-goes_on : goal.serialize_vec_weak_shared_whole-returns-in-Ok-serialize_run-clause-goes_on
+serialize_vec_weak_shared_whole-returns-in-Ok-serialize_run-clause-goes_on g t c = (goes_both _ _ _ c.serialize_each_weak_shared_whole.ensures.goes_on c.serialize_run.ensures.goes_on)
+
+pub serialize_vec_weak_shared_whole-returns-in-Err-serialize_run-clause-goes_on : goal.serialize_vec_weak_shared_whole-returns-in-Err-serialize_run-clause-goes_on
+serialize_vec_weak_shared_whole-returns-in-Err-serialize_run-clause-goes_on g t c = (goes_both _ _ _ c.serialize_each_weak_shared_whole.ensures.goes_on c.serialize_run.ensures.goes_on)
+
+pub serialize_vec_weak_shared_whole-returns-in-Err-serialize_run-clause-refused : goal.serialize_vec_weak_shared_whole-returns-in-Err-serialize_run-clause-refused
+serialize_vec_weak_shared_whole-returns-in-Err-serialize_run-clause-refused g t c = (rw c.as_slice-items.ensures.value at c.in-Err-serialize_run.ensures.refused).since _ c.serialize_each_weak_shared_whole.ensures.goes_on (rw c.as_slice-items.ensures.value at c.in-Ok.ensures.serialized)
+
+pub serialize_each_option_shared_whole-returns-in_err-resolvers-clause-refused : goal.serialize_each_option_shared_whole-returns-in_err-resolvers-clause-refused
+serialize_each_option_shared_whole-returns-in_err-resolvers-clause-refused g t c = err_by c.from_residual.result OutOfMemory _ c.from_residual.ensures.1 no_memory
+
+pub serialize_each_option_shared_whole-returns-in-Err-clause-goes_on : goal.serialize_each_option_shared_whole-returns-in-Err-clause-goes_on
+serialize_each_option_shared_whole-returns-in-Err-clause-goes_on g t c = goes_both _ _ _ c.loop-value.invariant.continues.goes c.serialize_keyed_whole.ensures.goes_on
+
+pub serialize_each_option_shared_whole-returns-in-Err-clause-refused : goal.serialize_each_option_shared_whole-returns-in-Err-clause-refused
+serialize_each_option_shared_whole-returns-in-Err-clause-refused g t c = continues_broken _ _ _ _ _ _ _ _ _ _ c.loop-value.value-index _ _ _ c.loop-value-test.true c.value-item.is (λ y. (option_planned whole_definitions (shared rc_flavor (one whole_shape)) (λ y. (rc_keys y.key (one whole_shape) 0 (whole_meaning y.value.value) (whole_keys y.value.value))) (λ y. (shared_value y.key)) (λ y. (rc_one_planned whole_definitions y.key (one whole_shape) whole_shape refl _ _ (whole_planned y.value.value))) y)) c.loop-value.invariant.continues c.serialize_keyed_whole.ensures.goes_on (let same : c.deref-inner.result.now ≡ c.in-Some.whole.value.value = grind (arith, common_steps) in rw (c.in-Some.is, ← same) (case_refused whole_definitions whole_definitions (λ s k. k) _ _ 1 (shared rc_flavor (one whole_shape)) refl _ _ _ _ _ c.in-Err.ensures.refused))
+
+pub serialize_each_option_shared_whole-returns-in_err-resolvers-clause-goes_on : goal.serialize_each_option_shared_whole-returns-in_err-resolvers-clause-goes_on
+serialize_each_option_shared_whole-returns-in_err-resolvers-clause-goes_on g t c = goes_nowhere _
+
+pub serialize_each_option_shared_whole-returns-in_err-map_err-in-None-clause-refused : goal.serialize_each_option_shared_whole-returns-in_err-map_err-in-None-clause-refused
+serialize_each_option_shared_whole-returns-in_err-map_err-in-None-clause-refused g t c = err_by c.from_residual-in_err-map_err-in-None.result OutOfMemory _ c.from_residual-in_err-map_err-in-None.ensures.1 no_memory
+
+pub serialize_each_option_shared_whole-returns-in_err-map_err-in-Some-clause-goes_on : goal.serialize_each_option_shared_whole-returns-in_err-map_err-in-Some-clause-goes_on
+serialize_each_option_shared_whole-returns-in_err-map_err-in-Some-clause-goes_on g t c = goes_both _ _ _ c.loop-value.invariant.continues.goes c.serialize_keyed_whole.ensures.goes_on
+
+pub serialize_each_option_shared_whole-returns-in_err-map_err-in-Some-clause-refused : goal.serialize_each_option_shared_whole-returns-in_err-map_err-in-Some-clause-refused
+serialize_each_option_shared_whole-returns-in_err-map_err-in-Some-clause-refused g t c = err_by c.from_residual-in_err-map_err-in-Some.result OutOfMemory _ c.from_residual-in_err-map_err-in-Some.ensures.1 no_memory
+
+pub serialize_each_option_shared_whole-loop-value-preserved : goal.serialize_each_option_shared_whole-loop-value-preserved
+serialize_each_option_shared_whole-loop-value-preserved g t c = record { continues = elim c.match-value.branch [ serialize_each_option_shared_whole-in-None+in_ok-map_err-in-None w ↦ rw (w.serializer-is, w.resolvers-is) (continues_step _ _ _ _ _ _ _ _ _ _ c.loop-value.value-index _ _ _ None c.loop-value-test.true c.value-item.is (grind (arith, common_steps, w.push.ensures.items, w.map_err.ensures.variant, w.branch-map_err.ensures, w.in_ok-map_err-in-None.is)) c.loop-value.invariant.continues (rw w.in-None.is (serialized_empty_case whole_definitions _ _ 0 refl _)) (rw w.in-None.is tt) (goes_nowhere _)) | serialize_each_option_shared_whole-in-Some+in-Ok+in_ok-map_err-in-Some w ↦ rw (w.serializer-is, w.resolvers-is) (continues_step _ _ _ _ _ _ _ _ _ _ c.loop-value.value-index _ _ _ (Some w.in-Ok.resolver) c.loop-value-test.true c.value-item.is (grind (arith, common_steps, w.push-in-Some.ensures.items, w.map_err-in-Some.ensures.variant, w.branch-map_err-in-Some.ensures, w.in_ok-map_err-in-Some.is)) c.loop-value.invariant.continues (let same : w.deref-inner.result.now ≡ w.in-Some.whole.value.value = grind (arith, common_steps) in rw (w.in-Some.is, ← same) (serialized_case whole_definitions whole_definitions (λ s k. k) _ _ 1 (shared rc_flavor (one whole_shape)) refl _ _ _ _ _ w.in-Ok.ensures.serialized)) (rw w.in-Some.is tt) w.serialize_keyed_whole.ensures.goes_on) ] }
+
+pub serialize_each_option_shared_whole-returns-clause-serialized : goal.serialize_each_option_shared_whole-returns-clause-serialized
+serialize_each_option_shared_whole-returns-clause-serialized g t c = continues_end _ _ _ _ _ _ _ _ _ _ _ (drop_of_length-le _ c.loop-value-test.false) c.loop-value.invariant.continues
+
+pub serialize_each_option_shared_whole-returns-clause-same_values : goal.serialize_each_option_shared_whole-returns-clause-same_values
+serialize_each_option_shared_whole-returns-clause-same_values g t c = belongs_end _ _ _ _ _ _ _ _ _ _ _ (drop_of_length-le _ c.loop-value-test.false) c.loop-value.invariant.continues
+
+pub serialize_vec_option_shared_whole-returns-then-len-clause-refused : goal.serialize_vec_option_shared_whole-returns-then-len-clause-refused
+serialize_vec_option_shared_whole-returns-then-len-clause-refused g t c = (let long : 4294967295 < length c.args.value.now.items = (let whole : length c.args.value.now.items ≡ c.len.result = grind (arith, common_steps, c.len.ensures) in omega (arith, c.if-len.true, whole)) in vec_refused whole_definitions (option_shape (shared rc_flavor (one whole_shape))) (length c.args.value.now.items) (each_keys (λ y. (option_keys (λ y. (rc_keys y.key (one whole_shape) 0 (whole_meaning y.value.value) (whole_keys y.value.value))) y)) c.args.value.now.items) (list (each_meaning (λ y. (option_meaning (λ y. (shared_value y.key)) y)) c.args.value.now.items)) _ _ _ (long_run_refused whole_definitions (option_shape (shared rc_flavor (one whole_shape))) (length c.args.value.now.items) (each_keys (λ y. (option_keys (λ y. (rc_keys y.key (one whole_shape) 0 (whole_meaning y.value.value) (whole_keys y.value.value))) y)) c.args.value.now.items) (each_meaning (λ y. (option_meaning (λ y. (shared_value y.key)) y)) c.args.value.now.items) _ _ (each_planned whole_definitions (option_shape (shared rc_flavor (one whole_shape))) (λ y. (option_keys (λ y. (rc_keys y.key (one whole_shape) 0 (whole_meaning y.value.value) (whole_keys y.value.value))) y)) (λ y. (option_meaning (λ y. (shared_value y.key)) y)) (λ y. (option_planned whole_definitions (shared rc_flavor (one whole_shape)) (λ y. (rc_keys y.key (one whole_shape) 0 (whole_meaning y.value.value) (whole_keys y.value.value))) (λ y. (shared_value y.key)) (λ y. (rc_one_planned whole_definitions y.key (one whole_shape) whole_shape refl _ _ (whole_planned y.value.value))) y)) c.args.value.now.items) long))
+
+pub serialize_vec_option_shared_whole-returns-in-Err-clause-refused : goal.serialize_vec_option_shared_whole-returns-in-Err-clause-refused
+serialize_vec_option_shared_whole-returns-in-Err-clause-refused g t c = vec_refused whole_definitions (option_shape (shared rc_flavor (one whole_shape))) (length c.args.value.now.items) (each_keys (λ y. (option_keys (λ y. (rc_keys y.key (one whole_shape) 0 (whole_meaning y.value.value) (whole_keys y.value.value))) y)) c.args.value.now.items) (list (each_meaning (λ y. (option_meaning (λ y. (shared_value y.key)) y)) c.args.value.now.items)) _ _ _ (run_owned whole_definitions (option_shape (shared rc_flavor (one whole_shape))) (length c.args.value.now.items) (each_keys (λ y. (option_keys (λ y. (rc_keys y.key (one whole_shape) 0 (whole_meaning y.value.value) (whole_keys y.value.value))) y)) c.args.value.now.items) (each_meaning (λ y. (option_meaning (λ y. (shared_value y.key)) y)) c.args.value.now.items) _ _ _ (rw c.as_slice-items.ensures.value at c.in-Err.ensures.refused))
+
+pub serialize_vec_option_shared_whole-returns-in-Ok-serialize_run-clause-serialized : goal.serialize_vec_option_shared_whole-returns-in-Ok-serialize_run-clause-serialized
+serialize_vec_option_shared_whole-returns-in-Ok-serialize_run-clause-serialized g t c = (rw c.as_slice-items.ensures.value at c.in-Ok-serialize_run.ensures.listed).since _ c.serialize_each_option_shared_whole.ensures.goes_on (rw c.as_slice-items.ensures.value at c.in-Ok.ensures.serialized)
+
+pub serialize_vec_option_shared_whole-returns-in-Ok-serialize_run-clause-goes_on : goal.serialize_vec_option_shared_whole-returns-in-Ok-serialize_run-clause-goes_on
+serialize_vec_option_shared_whole-returns-in-Ok-serialize_run-clause-goes_on g t c = (goes_both _ _ _ c.serialize_each_option_shared_whole.ensures.goes_on c.serialize_run.ensures.goes_on)
+
+pub serialize_vec_option_shared_whole-returns-in-Err-serialize_run-clause-goes_on : goal.serialize_vec_option_shared_whole-returns-in-Err-serialize_run-clause-goes_on
+serialize_vec_option_shared_whole-returns-in-Err-serialize_run-clause-goes_on g t c = (goes_both _ _ _ c.serialize_each_option_shared_whole.ensures.goes_on c.serialize_run.ensures.goes_on)
+
+pub serialize_vec_option_shared_whole-returns-in-Err-serialize_run-clause-refused : goal.serialize_vec_option_shared_whole-returns-in-Err-serialize_run-clause-refused
+serialize_vec_option_shared_whole-returns-in-Err-serialize_run-clause-refused g t c = (rw c.as_slice-items.ensures.value at c.in-Err-serialize_run.ensures.refused).since _ c.serialize_each_option_shared_whole.ensures.goes_on (rw c.as_slice-items.ensures.value at c.in-Ok.ensures.serialized)
+
+pub serialize_each_whole-returns-in_err-resolvers-clause-refused : goal.serialize_each_whole-returns-in_err-resolvers-clause-refused
+serialize_each_whole-returns-in_err-resolvers-clause-refused g t c = err_by c.from_residual.result OutOfMemory _ c.from_residual.ensures.1 no_memory
+
+pub serialize_each_whole-returns-in-Err-clause-goes_on : goal.serialize_each_whole-returns-in-Err-clause-goes_on
+serialize_each_whole-returns-in-Err-clause-goes_on g t c = goes_both _ _ _ c.loop-value.invariant.continues.goes c.serialize_whole.ensures.goes_on
+
+pub serialize_each_whole-returns-in-Err-clause-refused : goal.serialize_each_whole-returns-in-Err-clause-refused
+serialize_each_whole-returns-in-Err-clause-refused g t c = rw c.handed_on.ensures (continues_broken _ _ _ _ _ _ _ _ _ _ c.loop-value.value-index _ _ _ c.loop-value-test.true c.value-item.is whole_planned c.loop-value.invariant.continues c.serialize_whole.ensures.goes_on c.in-Err.ensures.refused)
+
+pub serialize_each_whole-returns-in_err-resolvers-clause-goes_on : goal.serialize_each_whole-returns-in_err-resolvers-clause-goes_on
+serialize_each_whole-returns-in_err-resolvers-clause-goes_on g t c = goes_nowhere _
+
+pub serialize_each_whole-loop-value-preserved : goal.serialize_each_whole-loop-value-preserved
+serialize_each_whole-loop-value-preserved g t c = record { continues = continues_step _ _ _ _ _ _ _ _ _ _ c.loop-value.value-index _ _ _ _ c.loop-value-test.true c.value-item.is (grind (arith, common_steps)) c.loop-value.invariant.continues c.in-Ok.ensures.serialized c.in-Ok.ensures.same_value c.serialize_whole.ensures.goes_on; reserved = (grind (arith, common_steps, c.loop-value.invariant.reserved.0), grind (arith, common_steps, c.loop-value.invariant.reserved.1)) }
+
+pub serialize_each_whole-returns-clause-serialized : goal.serialize_each_whole-returns-clause-serialized
+serialize_each_whole-returns-clause-serialized g t c = continues_end _ _ _ _ _ _ _ _ _ _ _ (drop_of_length-le _ c.loop-value-test.false) c.loop-value.invariant.continues
+
+pub serialize_each_whole-returns-clause-same_values : goal.serialize_each_whole-returns-clause-same_values
+serialize_each_whole-returns-clause-same_values g t c = belongs_end _ _ _ _ _ _ _ _ _ _ _ (drop_of_length-le _ c.loop-value-test.false) c.loop-value.invariant.continues
+
+pub serialize_shared_slice_whole-returns-in-Err-clause-refused : goal.serialize_shared_slice_whole-returns-in-Err-clause-refused
+serialize_shared_slice_whole-returns-in-Err-clause-refused g t c = (c.in-Err.ensures.refused.said whole_definitions rc_flavor whole_shape (each_keys whole_keys c.args.values.now) (each_meaning whole_meaning c.args.values.now) (each_planned whole_definitions whole_shape whole_keys whole_meaning whole_planned c.args.values.now))
+
+pub serialize_shared_slice_whole-returns-in-Err-serialize_each_whole-clause-goes_on : goal.serialize_shared_slice_whole-returns-in-Err-serialize_each_whole-clause-goes_on
+serialize_shared_slice_whole-returns-in-Err-serialize_each_whole-clause-goes_on g t c = (goes_both _ _ _ c.begin_shared_slice.ensures.goes_on c.serialize_each_whole.ensures.goes_on)
+
+pub serialize_shared_slice_whole-returns-in-Err-serialize_each_whole-clause-refused : goal.serialize_shared_slice_whole-returns-in-Err-serialize_each_whole-clause-refused
+serialize_shared_slice_whole-returns-in-Err-serialize_each_whole-clause-refused g t c = (region_refused whole_definitions (run whole_shape) (length c.args.values.now) c.args.key (each_keys whole_keys c.args.values.now) (list (each_meaning whole_meaning c.args.values.now)) rc_flavor _ _ _ _ (rw c.in-None.is at c.in-Ok.ensures.begun) c.serialize_each_whole.ensures.goes_on (run_owned whole_definitions whole_shape (length c.args.values.now) (each_keys whole_keys c.args.values.now) (each_meaning whole_meaning c.args.values.now) _ _ _ c.in-Err-serialize_each_whole.ensures.refused))
+
+pub serialize_shared_slice_whole-returns-in-Err-finish_shared_slice-clause-goes_on : goal.serialize_shared_slice_whole-returns-in-Err-finish_shared_slice-clause-goes_on
+serialize_shared_slice_whole-returns-in-Err-finish_shared_slice-clause-goes_on g t c = (c.finish_shared_slice.ensures.goes_on.since _ _ (rw c.in-None.is at c.in-Ok.ensures.begun) c.serialize_each_whole.ensures.goes_on)
+
+pub serialize_shared_slice_whole-returns-in-Err-finish_shared_slice-clause-refused : goal.serialize_shared_slice_whole-returns-in-Err-finish_shared_slice-clause-refused
+serialize_shared_slice_whole-returns-in-Err-finish_shared_slice-clause-refused g t c = (c.in-Err-finish_shared_slice.ensures.refused.since rc_flavor _ _ (rw c.in-None.is at c.in-Ok.ensures.begun) c.serialize_each_whole.ensures.goes_on c.in-Ok-serialize_each_whole.ensures.serialized)
+
+pub serialize_shared_slice_whole-returns-in-Some-clause-serialized : goal.serialize_shared_slice_whole-returns-in-Some-clause-serialized
+serialize_shared_slice_whole-returns-in-Some-clause-serialized g t c = ((rw c.in-Some.is at c.in-Ok.ensures.known).said whole_definitions rc_flavor (run whole_shape) (length c.args.values.now) (each_keys whole_keys c.args.values.now) (list (each_meaning whole_meaning c.args.values.now)))
+
+pub serialize_shared_slice_whole-returns-in-Ok-finish_shared_slice-clause-serialized : goal.serialize_shared_slice_whole-returns-in-Ok-finish_shared_slice-clause-serialized
+serialize_shared_slice_whole-returns-in-Ok-finish_shared_slice-clause-serialized g t c = (c.in-Ok-finish_shared_slice.ensures.shared.since rc_flavor _ _ (rw c.in-None.is at c.in-Ok.ensures.begun) c.serialize_each_whole.ensures.goes_on c.in-Ok-serialize_each_whole.ensures.serialized)
+
+pub serialize_shared_slice_whole-returns-in-Ok-finish_shared_slice-clause-goes_on : goal.serialize_shared_slice_whole-returns-in-Ok-finish_shared_slice-clause-goes_on
+serialize_shared_slice_whole-returns-in-Ok-finish_shared_slice-clause-goes_on g t c = (c.finish_shared_slice.ensures.goes_on.since _ _ (rw c.in-None.is at c.in-Ok.ensures.begun) c.serialize_each_whole.ensures.goes_on)
+
+pub serialize_each_shared_whole-returns-in_err-resolvers-clause-refused : goal.serialize_each_shared_whole-returns-in_err-resolvers-clause-refused
+serialize_each_shared_whole-returns-in_err-resolvers-clause-refused g t c = err_by c.from_residual.result OutOfMemory _ c.from_residual.ensures.1 no_memory
+
+pub serialize_each_shared_whole-returns-in-Err-clause-goes_on : goal.serialize_each_shared_whole-returns-in-Err-clause-goes_on
+serialize_each_shared_whole-returns-in-Err-clause-goes_on g t c = goes_both _ _ _ c.loop-value.invariant.continues.goes c.begin_shared.ensures.goes_on
+
+pub serialize_each_shared_whole-returns-in-Err-clause-refused : goal.serialize_each_shared_whole-returns-in-Err-clause-refused
+serialize_each_shared_whole-returns-in-Err-clause-refused g t c = continues_broken _ _ _ _ _ _ _ _ _ _ c.loop-value.value-index _ _ _ c.loop-value-test.true c.value-item.is (λ y. (rc_one_planned whole_definitions y.key (one whole_shape) whole_shape refl _ _ (whole_planned y.value.value))) c.loop-value.invariant.continues c.begin_shared.ensures.goes_on (c.in-Err.ensures.refused.said whole_definitions rc_flavor (one whole_shape) 0 (whole_keys c.value-item.result.value.value) (whole_meaning c.value-item.result.value.value))
+
+pub serialize_each_shared_whole-returns-in-Err-serialize_whole-clause-goes_on : goal.serialize_each_shared_whole-returns-in-Err-serialize_whole-clause-goes_on
+serialize_each_shared_whole-returns-in-Err-serialize_whole-clause-goes_on g t c = goes_both _ _ _ c.loop-value.invariant.continues.goes (goes_both _ _ _ c.begin_shared.ensures.goes_on c.serialize_whole.ensures.goes_on)
+
+pub serialize_each_shared_whole-returns-in-Err-serialize_whole-clause-refused : goal.serialize_each_shared_whole-returns-in-Err-serialize_whole-clause-refused
+serialize_each_shared_whole-returns-in-Err-serialize_whole-clause-refused g t c = continues_broken _ _ _ _ _ _ _ _ _ _ c.loop-value.value-index _ _ _ c.loop-value-test.true c.value-item.is (λ y. (rc_one_planned whole_definitions y.key (one whole_shape) whole_shape refl _ _ (whole_planned y.value.value))) c.loop-value.invariant.continues (goes_both _ _ _ c.begin_shared.ensures.goes_on c.serialize_whole.ensures.goes_on) (let same : c.deref-inner.result.now ≡ c.value-item.result.value.value = grind (arith, common_steps) in rw (← same) (region_refused whole_definitions (one whole_shape) 0 c.value-item.result.key _ _ rc_flavor _ _ _ _ (rw c.in-None.is at c.in-Ok.ensures.begun) c.serialize_whole.ensures.goes_on (one_owned whole_definitions whole_shape _ _ _ _ _ c.in-Err-serialize_whole.ensures.refused)))
+
+pub serialize_each_shared_whole-returns-in-Err-finish_shared-clause-goes_on : goal.serialize_each_shared_whole-returns-in-Err-finish_shared-clause-goes_on
+serialize_each_shared_whole-returns-in-Err-finish_shared-clause-goes_on g t c = goes_both _ _ _ c.loop-value.invariant.continues.goes (c.finish_shared.ensures.goes_on.since _ _ (rw c.in-None.is at c.in-Ok.ensures.begun) c.serialize_whole.ensures.goes_on)
+
+pub serialize_each_shared_whole-returns-in-Err-finish_shared-clause-refused : goal.serialize_each_shared_whole-returns-in-Err-finish_shared-clause-refused
+serialize_each_shared_whole-returns-in-Err-finish_shared-clause-refused g t c = continues_broken _ _ _ _ _ _ _ _ _ _ c.loop-value.value-index _ _ _ c.loop-value-test.true c.value-item.is (λ y. (rc_one_planned whole_definitions y.key (one whole_shape) whole_shape refl _ _ (whole_planned y.value.value))) c.loop-value.invariant.continues (c.finish_shared.ensures.goes_on.since _ _ (rw c.in-None.is at c.in-Ok.ensures.begun) c.serialize_whole.ensures.goes_on) (let same : c.deref-inner.result.now ≡ c.value-item.result.value.value = grind (arith, common_steps) in rw (← same) (c.in-Err-finish_shared.ensures.refused.since rc_flavor _ _ (rw c.in-None.is at c.in-Ok.ensures.begun) c.serialize_whole.ensures.goes_on c.in-Ok-serialize_whole.ensures.serialized))
+
+pub serialize_each_shared_whole-returns-in_err-resolvers-clause-goes_on : goal.serialize_each_shared_whole-returns-in_err-resolvers-clause-goes_on
+serialize_each_shared_whole-returns-in_err-resolvers-clause-goes_on g t c = goes_nowhere _
+
+pub serialize_each_shared_whole-returns-in_err-map_err-in-Some-clause-goes_on : goal.serialize_each_shared_whole-returns-in_err-map_err-in-Some-clause-goes_on
+serialize_each_shared_whole-returns-in_err-map_err-in-Some-clause-goes_on g t c = goes_both _ _ _ c.loop-value.invariant.continues.goes c.begin_shared.ensures.goes_on
+
+pub serialize_each_shared_whole-returns-in_err-map_err-in-Some-clause-refused : goal.serialize_each_shared_whole-returns-in_err-map_err-in-Some-clause-refused
+serialize_each_shared_whole-returns-in_err-map_err-in-Some-clause-refused g t c = err_by c.from_residual-in_err-map_err-in-Some.result OutOfMemory _ c.from_residual-in_err-map_err-in-Some.ensures.1 no_memory
+
+pub serialize_each_shared_whole-returns-in_err-map_err-in-None-clause-goes_on : goal.serialize_each_shared_whole-returns-in_err-map_err-in-None-clause-goes_on
+serialize_each_shared_whole-returns-in_err-map_err-in-None-clause-goes_on g t c = goes_both _ _ _ c.loop-value.invariant.continues.goes (c.finish_shared.ensures.goes_on.since _ _ (rw c.in-None.is at c.in-Ok.ensures.begun) c.serialize_whole.ensures.goes_on)
+
+pub serialize_each_shared_whole-returns-in_err-map_err-in-None-clause-refused : goal.serialize_each_shared_whole-returns-in_err-map_err-in-None-clause-refused
+serialize_each_shared_whole-returns-in_err-map_err-in-None-clause-refused g t c = err_by c.from_residual-in_err-map_err-in-None.result OutOfMemory _ c.from_residual-in_err-map_err-in-None.ensures.1 no_memory
+
+pub serialize_each_shared_whole-loop-value-preserved : goal.serialize_each_shared_whole-loop-value-preserved
+serialize_each_shared_whole-loop-value-preserved g t c = record { continues = elim c.match-known.branch [ serialize_each_shared_whole-in-Some+in_ok-map_err-in-Some w ↦ rw (w.serializer-is, w.resolvers-is) (continues_step _ _ _ _ _ _ _ _ _ _ c.loop-value.value-index _ _ _ w.in-Some.resolver c.loop-value-test.true c.value-item.is (grind (arith, common_steps, w.push.ensures.items, w.map_err.ensures.variant, w.branch-map_err.ensures, w.in_ok-map_err-in-Some.is)) c.loop-value.invariant.continues ((rw w.in-Some.is at c.in-Ok.ensures.known).said whole_definitions rc_flavor (one whole_shape) 0 (whole_keys c.value-item.result.value.value) (whole_meaning c.value-item.result.value.value)) tt c.begin_shared.ensures.goes_on) | serialize_each_shared_whole-in-None+in-Ok-serialize_whole+in-Ok-finish_shared+in_ok-map_err-in-None w ↦ rw (w.serializer-is, w.resolvers-is) (continues_step _ _ _ _ _ _ _ _ _ _ c.loop-value.value-index _ _ _ w.in-Ok-finish_shared.resolver c.loop-value-test.true c.value-item.is (grind (arith, common_steps, w.push-in-None.ensures.items, w.map_err-in-None.ensures.variant, w.branch-map_err-in-None.ensures, w.in_ok-map_err-in-None.is)) c.loop-value.invariant.continues (let same : c.deref-inner.result.now ≡ c.value-item.result.value.value = grind (arith, common_steps) in rw (← same) (w.in-Ok-finish_shared.ensures.shared.since rc_flavor _ _ (rw w.in-None.is at c.in-Ok.ensures.begun) w.serialize_whole.ensures.goes_on w.in-Ok-serialize_whole.ensures.serialized)) tt (w.finish_shared.ensures.goes_on.since _ _ (rw w.in-None.is at c.in-Ok.ensures.begun) w.serialize_whole.ensures.goes_on)) ] }
+
+pub serialize_each_shared_whole-returns-clause-serialized : goal.serialize_each_shared_whole-returns-clause-serialized
+serialize_each_shared_whole-returns-clause-serialized g t c = continues_end _ _ _ _ _ _ _ _ _ _ _ (drop_of_length-le _ c.loop-value-test.false) c.loop-value.invariant.continues
+
+pub serialize_each_shared_whole-returns-clause-same_values : goal.serialize_each_shared_whole-returns-clause-same_values
+serialize_each_shared_whole-returns-clause-same_values g t c = belongs_end _ _ _ _ _ _ _ _ _ _ _ (drop_of_length-le _ c.loop-value-test.false) c.loop-value.invariant.continues
+
+pub serialize_vec_shared_whole-returns-then-len-clause-refused : goal.serialize_vec_shared_whole-returns-then-len-clause-refused
+serialize_vec_shared_whole-returns-then-len-clause-refused g t c = (let long : 4294967295 < length c.args.value.now.items = (let whole : length c.args.value.now.items ≡ c.len.result = grind (arith, common_steps, c.len.ensures) in omega (arith, c.if-len.true, whole)) in vec_refused whole_definitions (shared rc_flavor (one whole_shape)) (length c.args.value.now.items) (each_keys (λ y. (rc_keys y.key (one whole_shape) 0 (whole_meaning y.value.value) (whole_keys y.value.value))) c.args.value.now.items) (list (each_meaning (λ y. (shared_value y.key)) c.args.value.now.items)) _ _ _ (long_run_refused whole_definitions (shared rc_flavor (one whole_shape)) (length c.args.value.now.items) (each_keys (λ y. (rc_keys y.key (one whole_shape) 0 (whole_meaning y.value.value) (whole_keys y.value.value))) c.args.value.now.items) (each_meaning (λ y. (shared_value y.key)) c.args.value.now.items) _ _ (each_planned whole_definitions (shared rc_flavor (one whole_shape)) (λ y. (rc_keys y.key (one whole_shape) 0 (whole_meaning y.value.value) (whole_keys y.value.value))) (λ y. (shared_value y.key)) (λ y. (rc_one_planned whole_definitions y.key (one whole_shape) whole_shape refl _ _ (whole_planned y.value.value))) c.args.value.now.items) long))
+
+pub serialize_vec_shared_whole-returns-in-Err-clause-refused : goal.serialize_vec_shared_whole-returns-in-Err-clause-refused
+serialize_vec_shared_whole-returns-in-Err-clause-refused g t c = vec_refused whole_definitions (shared rc_flavor (one whole_shape)) (length c.args.value.now.items) (each_keys (λ y. (rc_keys y.key (one whole_shape) 0 (whole_meaning y.value.value) (whole_keys y.value.value))) c.args.value.now.items) (list (each_meaning (λ y. (shared_value y.key)) c.args.value.now.items)) _ _ _ (run_owned whole_definitions (shared rc_flavor (one whole_shape)) (length c.args.value.now.items) (each_keys (λ y. (rc_keys y.key (one whole_shape) 0 (whole_meaning y.value.value) (whole_keys y.value.value))) c.args.value.now.items) (each_meaning (λ y. (shared_value y.key)) c.args.value.now.items) _ _ _ (rw c.as_slice-items.ensures.value at c.in-Err.ensures.refused))
+
+pub serialize_vec_shared_whole-returns-in-Ok-serialize_run-clause-serialized : goal.serialize_vec_shared_whole-returns-in-Ok-serialize_run-clause-serialized
+serialize_vec_shared_whole-returns-in-Ok-serialize_run-clause-serialized g t c = (rw c.as_slice-items.ensures.value at c.in-Ok-serialize_run.ensures.listed).since _ c.serialize_each_shared_whole.ensures.goes_on (rw c.as_slice-items.ensures.value at c.in-Ok.ensures.serialized)
+
+pub serialize_vec_shared_whole-returns-in-Ok-serialize_run-clause-goes_on : goal.serialize_vec_shared_whole-returns-in-Ok-serialize_run-clause-goes_on
+serialize_vec_shared_whole-returns-in-Ok-serialize_run-clause-goes_on g t c = (goes_both _ _ _ c.serialize_each_shared_whole.ensures.goes_on c.serialize_run.ensures.goes_on)
+
+pub serialize_vec_shared_whole-returns-in-Err-serialize_run-clause-goes_on : goal.serialize_vec_shared_whole-returns-in-Err-serialize_run-clause-goes_on
+serialize_vec_shared_whole-returns-in-Err-serialize_run-clause-goes_on g t c = (goes_both _ _ _ c.serialize_each_shared_whole.ensures.goes_on c.serialize_run.ensures.goes_on)
+
+pub serialize_vec_shared_whole-returns-in-Err-serialize_run-clause-refused : goal.serialize_vec_shared_whole-returns-in-Err-serialize_run-clause-refused
+serialize_vec_shared_whole-returns-in-Err-serialize_run-clause-refused g t c = (rw c.as_slice-items.ensures.value at c.in-Err-serialize_run.ensures.refused).since _ c.serialize_each_shared_whole.ensures.goes_on (rw c.as_slice-items.ensures.value at c.in-Ok.ensures.serialized)
+
+pub serialize_whole_whole-returns-in-Err-clause-refused : goal.serialize_whole_whole-returns-in-Err-clause-refused
+serialize_whole_whole-returns-in-Err-clause-refused g t c = rw c.handed_on.ensures (refused_as (whole_has_keys c.args.value.now) (whole_means c.args.value.now) (record_refused whole_definitions whole_shape whole_part_definitions whole_parts whole_has_parts _ _ _ _ _ (first_refused whole_definitions (both whole_definitions (both whole_definitions (both whole_definitions (both whole_definitions no_definition)))) (weak rc_flavor (one whole_shape)) (part (vec (weak rc_flavor (one whole_shape))) (part (vec (option_shape (shared rc_flavor (one whole_shape)))) (part (shared rc_flavor (run whole_shape)) (part (vec (shared rc_flavor (one whole_shape))) no_part)))) (option_keys (λ s. (rc_keys s.key (one whole_shape) 0 (whole_meaning s.value.value) (whole_keys s.value.value))) (out-Whole c.args.value.now).weak.value) ((each_keys (λ y. (option_keys (λ s. (rc_keys s.key (one whole_shape) 0 (whole_meaning s.value.value) (whole_keys s.value.value))) y.value)) (out-Whole c.args.value.now).weaks.items) ++ ((each_keys (λ y. (option_keys (λ y. (rc_keys y.key (one whole_shape) 0 (whole_meaning y.value.value) (whole_keys y.value.value))) y)) (out-Whole c.args.value.now).options.items) ++ ((rc_keys (out-Whole c.args.value.now).slice.key (run whole_shape) (length (out-Whole c.args.value.now).slice.value.items.value.items) (list (each_meaning whole_meaning (out-Whole c.args.value.now).slice.value.items.value.items)) (each_keys whole_keys (out-Whole c.args.value.now).slice.value.items.value.items)) ++ ((each_keys (λ y. (rc_keys y.key (one whole_shape) 0 (whole_meaning y.value.value) (whole_keys y.value.value))) (out-Whole c.args.value.now).ones.items) ++ [])))) (weak_value (λ s. (shared_value s.key)) (out-Whole c.args.value.now).weak.value) (value (list (each_meaning (λ y. (weak_value (λ s. (shared_value s.key)) y.value)) (out-Whole c.args.value.now).weaks.items)) (value (list (each_meaning (λ y. (option_meaning (λ y. (shared_value y.key)) y)) (out-Whole c.args.value.now).options.items)) (value (shared_value (out-Whole c.args.value.now).slice.key) (value (list (each_meaning (λ y. (shared_value y.key)) (out-Whole c.args.value.now).ones.items)) no_value)))) _ _ _ (part_planned whole_definitions (vec (weak rc_flavor (one whole_shape))) (each_keys (λ y. (option_keys (λ s. (rc_keys s.key (one whole_shape) 0 (whole_meaning s.value.value) (whole_keys s.value.value))) y.value)) (out-Whole c.args.value.now).weaks.items) (list (each_meaning (λ y. (weak_value (λ s. (shared_value s.key)) y.value)) (out-Whole c.args.value.now).weaks.items)) (vec_planned whole_definitions (weak rc_flavor (one whole_shape)) _ _ _ (slice_planned whole_definitions (weak rc_flavor (one whole_shape)) (λ y. (option_keys (λ s. (rc_keys s.key (one whole_shape) 0 (whole_meaning s.value.value) (whole_keys s.value.value))) y.value)) (λ y. (weak_value (λ s. (shared_value s.key)) y.value)) (λ y. (weak_planned whole_definitions rc_flavor (one whole_shape) (λ s. (rc_keys s.key (one whole_shape) 0 (whole_meaning s.value.value) (whole_keys s.value.value))) (λ s. (shared_value s.key)) (λ s. (rc_one_planned whole_definitions s.key (one whole_shape) whole_shape refl _ _ (whole_planned s.value.value))) y.value)) (out-Whole c.args.value.now).weaks.items)) (part_planned whole_definitions (vec (option_shape (shared rc_flavor (one whole_shape)))) (each_keys (λ y. (option_keys (λ y. (rc_keys y.key (one whole_shape) 0 (whole_meaning y.value.value) (whole_keys y.value.value))) y)) (out-Whole c.args.value.now).options.items) (list (each_meaning (λ y. (option_meaning (λ y. (shared_value y.key)) y)) (out-Whole c.args.value.now).options.items)) (vec_planned whole_definitions (option_shape (shared rc_flavor (one whole_shape))) _ _ _ (slice_planned whole_definitions (option_shape (shared rc_flavor (one whole_shape))) (λ y. (option_keys (λ y. (rc_keys y.key (one whole_shape) 0 (whole_meaning y.value.value) (whole_keys y.value.value))) y)) (λ y. (option_meaning (λ y. (shared_value y.key)) y)) (λ y. (option_planned whole_definitions (shared rc_flavor (one whole_shape)) (λ y. (rc_keys y.key (one whole_shape) 0 (whole_meaning y.value.value) (whole_keys y.value.value))) (λ y. (shared_value y.key)) (λ y. (rc_one_planned whole_definitions y.key (one whole_shape) whole_shape refl _ _ (whole_planned y.value.value))) y)) (out-Whole c.args.value.now).options.items)) (part_planned whole_definitions (shared rc_flavor (run whole_shape)) (rc_keys (out-Whole c.args.value.now).slice.key (run whole_shape) (length (out-Whole c.args.value.now).slice.value.items.value.items) (list (each_meaning whole_meaning (out-Whole c.args.value.now).slice.value.items.value.items)) (each_keys whole_keys (out-Whole c.args.value.now).slice.value.items.value.items)) (shared_value (out-Whole c.args.value.now).slice.key) (rc_planned whole_definitions (out-Whole c.args.value.now).slice.key (run whole_shape) _ _ _ (slice_planned whole_definitions whole_shape whole_keys whole_meaning whole_planned (out-Whole c.args.value.now).slice.value.items.value.items)) (part_planned whole_definitions (vec (shared rc_flavor (one whole_shape))) (each_keys (λ y. (rc_keys y.key (one whole_shape) 0 (whole_meaning y.value.value) (whole_keys y.value.value))) (out-Whole c.args.value.now).ones.items) (list (each_meaning (λ y. (shared_value y.key)) (out-Whole c.args.value.now).ones.items)) (vec_planned whole_definitions (shared rc_flavor (one whole_shape)) _ _ _ (slice_planned whole_definitions (shared rc_flavor (one whole_shape)) (λ y. (rc_keys y.key (one whole_shape) 0 (whole_meaning y.value.value) (whole_keys y.value.value))) (λ y. (shared_value y.key)) (λ y. (rc_one_planned whole_definitions y.key (one whole_shape) whole_shape refl _ _ (whole_planned y.value.value))) (out-Whole c.args.value.now).ones.items)) no_part_planned)))) c.in-Err.ensures.refused)))
+
+pub serialize_whole_whole-returns-in-Err-serialize_vec_weak_shared_whole-clause-refused : goal.serialize_whole_whole-returns-in-Err-serialize_vec_weak_shared_whole-clause-refused
+serialize_whole_whole-returns-in-Err-serialize_vec_weak_shared_whole-clause-refused g t c = (refused_as (whole_has_keys c.args.value.now) (whole_means c.args.value.now) (record_refused whole_definitions whole_shape whole_part_definitions whole_parts whole_has_parts _ _ _ _ _ (later_refused whole_definitions (both whole_definitions (both whole_definitions (both whole_definitions (both whole_definitions no_definition)))) (weak rc_flavor (one whole_shape)) (part (vec (weak rc_flavor (one whole_shape))) (part (vec (option_shape (shared rc_flavor (one whole_shape)))) (part (shared rc_flavor (run whole_shape)) (part (vec (shared rc_flavor (one whole_shape))) no_part)))) (option_keys (λ s. (rc_keys s.key (one whole_shape) 0 (whole_meaning s.value.value) (whole_keys s.value.value))) (out-Whole c.args.value.now).weak.value) ((each_keys (λ y. (option_keys (λ s. (rc_keys s.key (one whole_shape) 0 (whole_meaning s.value.value) (whole_keys s.value.value))) y.value)) (out-Whole c.args.value.now).weaks.items) ++ ((each_keys (λ y. (option_keys (λ y. (rc_keys y.key (one whole_shape) 0 (whole_meaning y.value.value) (whole_keys y.value.value))) y)) (out-Whole c.args.value.now).options.items) ++ ((rc_keys (out-Whole c.args.value.now).slice.key (run whole_shape) (length (out-Whole c.args.value.now).slice.value.items.value.items) (list (each_meaning whole_meaning (out-Whole c.args.value.now).slice.value.items.value.items)) (each_keys whole_keys (out-Whole c.args.value.now).slice.value.items.value.items)) ++ ((each_keys (λ y. (rc_keys y.key (one whole_shape) 0 (whole_meaning y.value.value) (whole_keys y.value.value))) (out-Whole c.args.value.now).ones.items) ++ [])))) (weak_value (λ s. (shared_value s.key)) (out-Whole c.args.value.now).weak.value) (value (list (each_meaning (λ y. (weak_value (λ s. (shared_value s.key)) y.value)) (out-Whole c.args.value.now).weaks.items)) (value (list (each_meaning (λ y. (option_meaning (λ y. (shared_value y.key)) y)) (out-Whole c.args.value.now).options.items)) (value (shared_value (out-Whole c.args.value.now).slice.key) (value (list (each_meaning (λ y. (shared_value y.key)) (out-Whole c.args.value.now).ones.items)) no_value)))) _ _ _ _ _ c.in-Ok.ensures.serialized c.serialize_weak_shared_whole.ensures.goes_on c.serialize_vec_weak_shared_whole.ensures.goes_on (first_refused whole_definitions (both whole_definitions (both whole_definitions (both whole_definitions no_definition))) (vec (weak rc_flavor (one whole_shape))) (part (vec (option_shape (shared rc_flavor (one whole_shape)))) (part (shared rc_flavor (run whole_shape)) (part (vec (shared rc_flavor (one whole_shape))) no_part))) (each_keys (λ y. (option_keys (λ s. (rc_keys s.key (one whole_shape) 0 (whole_meaning s.value.value) (whole_keys s.value.value))) y.value)) (out-Whole c.args.value.now).weaks.items) ((each_keys (λ y. (option_keys (λ y. (rc_keys y.key (one whole_shape) 0 (whole_meaning y.value.value) (whole_keys y.value.value))) y)) (out-Whole c.args.value.now).options.items) ++ ((rc_keys (out-Whole c.args.value.now).slice.key (run whole_shape) (length (out-Whole c.args.value.now).slice.value.items.value.items) (list (each_meaning whole_meaning (out-Whole c.args.value.now).slice.value.items.value.items)) (each_keys whole_keys (out-Whole c.args.value.now).slice.value.items.value.items)) ++ ((each_keys (λ y. (rc_keys y.key (one whole_shape) 0 (whole_meaning y.value.value) (whole_keys y.value.value))) (out-Whole c.args.value.now).ones.items) ++ []))) (list (each_meaning (λ y. (weak_value (λ s. (shared_value s.key)) y.value)) (out-Whole c.args.value.now).weaks.items)) (value (list (each_meaning (λ y. (option_meaning (λ y. (shared_value y.key)) y)) (out-Whole c.args.value.now).options.items)) (value (shared_value (out-Whole c.args.value.now).slice.key) (value (list (each_meaning (λ y. (shared_value y.key)) (out-Whole c.args.value.now).ones.items)) no_value))) _ _ _ (part_planned whole_definitions (vec (option_shape (shared rc_flavor (one whole_shape)))) (each_keys (λ y. (option_keys (λ y. (rc_keys y.key (one whole_shape) 0 (whole_meaning y.value.value) (whole_keys y.value.value))) y)) (out-Whole c.args.value.now).options.items) (list (each_meaning (λ y. (option_meaning (λ y. (shared_value y.key)) y)) (out-Whole c.args.value.now).options.items)) (vec_planned whole_definitions (option_shape (shared rc_flavor (one whole_shape))) _ _ _ (slice_planned whole_definitions (option_shape (shared rc_flavor (one whole_shape))) (λ y. (option_keys (λ y. (rc_keys y.key (one whole_shape) 0 (whole_meaning y.value.value) (whole_keys y.value.value))) y)) (λ y. (option_meaning (λ y. (shared_value y.key)) y)) (λ y. (option_planned whole_definitions (shared rc_flavor (one whole_shape)) (λ y. (rc_keys y.key (one whole_shape) 0 (whole_meaning y.value.value) (whole_keys y.value.value))) (λ y. (shared_value y.key)) (λ y. (rc_one_planned whole_definitions y.key (one whole_shape) whole_shape refl _ _ (whole_planned y.value.value))) y)) (out-Whole c.args.value.now).options.items)) (part_planned whole_definitions (shared rc_flavor (run whole_shape)) (rc_keys (out-Whole c.args.value.now).slice.key (run whole_shape) (length (out-Whole c.args.value.now).slice.value.items.value.items) (list (each_meaning whole_meaning (out-Whole c.args.value.now).slice.value.items.value.items)) (each_keys whole_keys (out-Whole c.args.value.now).slice.value.items.value.items)) (shared_value (out-Whole c.args.value.now).slice.key) (rc_planned whole_definitions (out-Whole c.args.value.now).slice.key (run whole_shape) _ _ _ (slice_planned whole_definitions whole_shape whole_keys whole_meaning whole_planned (out-Whole c.args.value.now).slice.value.items.value.items)) (part_planned whole_definitions (vec (shared rc_flavor (one whole_shape))) (each_keys (λ y. (rc_keys y.key (one whole_shape) 0 (whole_meaning y.value.value) (whole_keys y.value.value))) (out-Whole c.args.value.now).ones.items) (list (each_meaning (λ y. (shared_value y.key)) (out-Whole c.args.value.now).ones.items)) (vec_planned whole_definitions (shared rc_flavor (one whole_shape)) _ _ _ (slice_planned whole_definitions (shared rc_flavor (one whole_shape)) (λ y. (rc_keys y.key (one whole_shape) 0 (whole_meaning y.value.value) (whole_keys y.value.value))) (λ y. (shared_value y.key)) (λ y. (rc_one_planned whole_definitions y.key (one whole_shape) whole_shape refl _ _ (whole_planned y.value.value))) (out-Whole c.args.value.now).ones.items)) no_part_planned))) c.in-Err-serialize_vec_weak_shared_whole.ensures.refused))))
+
+pub serialize_whole_whole-returns-in-Err-serialize_vec_weak_shared_whole-clause-goes_on : goal.serialize_whole_whole-returns-in-Err-serialize_vec_weak_shared_whole-clause-goes_on
+serialize_whole_whole-returns-in-Err-serialize_vec_weak_shared_whole-clause-goes_on g t c = (goes_both _ _ _ c.serialize_weak_shared_whole.ensures.goes_on c.serialize_vec_weak_shared_whole.ensures.goes_on)
+
+pub serialize_whole_whole-returns-in-Err-serialize_vec_option_shared_whole-clause-refused : goal.serialize_whole_whole-returns-in-Err-serialize_vec_option_shared_whole-clause-refused
+serialize_whole_whole-returns-in-Err-serialize_vec_option_shared_whole-clause-refused g t c = (refused_as (whole_has_keys c.args.value.now) (whole_means c.args.value.now) (record_refused whole_definitions whole_shape whole_part_definitions whole_parts whole_has_parts _ _ _ _ _ (later_refused whole_definitions (both whole_definitions (both whole_definitions (both whole_definitions (both whole_definitions no_definition)))) (weak rc_flavor (one whole_shape)) (part (vec (weak rc_flavor (one whole_shape))) (part (vec (option_shape (shared rc_flavor (one whole_shape)))) (part (shared rc_flavor (run whole_shape)) (part (vec (shared rc_flavor (one whole_shape))) no_part)))) (option_keys (λ s. (rc_keys s.key (one whole_shape) 0 (whole_meaning s.value.value) (whole_keys s.value.value))) (out-Whole c.args.value.now).weak.value) ((each_keys (λ y. (option_keys (λ s. (rc_keys s.key (one whole_shape) 0 (whole_meaning s.value.value) (whole_keys s.value.value))) y.value)) (out-Whole c.args.value.now).weaks.items) ++ ((each_keys (λ y. (option_keys (λ y. (rc_keys y.key (one whole_shape) 0 (whole_meaning y.value.value) (whole_keys y.value.value))) y)) (out-Whole c.args.value.now).options.items) ++ ((rc_keys (out-Whole c.args.value.now).slice.key (run whole_shape) (length (out-Whole c.args.value.now).slice.value.items.value.items) (list (each_meaning whole_meaning (out-Whole c.args.value.now).slice.value.items.value.items)) (each_keys whole_keys (out-Whole c.args.value.now).slice.value.items.value.items)) ++ ((each_keys (λ y. (rc_keys y.key (one whole_shape) 0 (whole_meaning y.value.value) (whole_keys y.value.value))) (out-Whole c.args.value.now).ones.items) ++ [])))) (weak_value (λ s. (shared_value s.key)) (out-Whole c.args.value.now).weak.value) (value (list (each_meaning (λ y. (weak_value (λ s. (shared_value s.key)) y.value)) (out-Whole c.args.value.now).weaks.items)) (value (list (each_meaning (λ y. (option_meaning (λ y. (shared_value y.key)) y)) (out-Whole c.args.value.now).options.items)) (value (shared_value (out-Whole c.args.value.now).slice.key) (value (list (each_meaning (λ y. (shared_value y.key)) (out-Whole c.args.value.now).ones.items)) no_value)))) _ _ _ _ _ c.in-Ok.ensures.serialized c.serialize_weak_shared_whole.ensures.goes_on (goes_both _ _ _ c.serialize_vec_weak_shared_whole.ensures.goes_on c.serialize_vec_option_shared_whole.ensures.goes_on) (later_refused whole_definitions (both whole_definitions (both whole_definitions (both whole_definitions no_definition))) (vec (weak rc_flavor (one whole_shape))) (part (vec (option_shape (shared rc_flavor (one whole_shape)))) (part (shared rc_flavor (run whole_shape)) (part (vec (shared rc_flavor (one whole_shape))) no_part))) (each_keys (λ y. (option_keys (λ s. (rc_keys s.key (one whole_shape) 0 (whole_meaning s.value.value) (whole_keys s.value.value))) y.value)) (out-Whole c.args.value.now).weaks.items) ((each_keys (λ y. (option_keys (λ y. (rc_keys y.key (one whole_shape) 0 (whole_meaning y.value.value) (whole_keys y.value.value))) y)) (out-Whole c.args.value.now).options.items) ++ ((rc_keys (out-Whole c.args.value.now).slice.key (run whole_shape) (length (out-Whole c.args.value.now).slice.value.items.value.items) (list (each_meaning whole_meaning (out-Whole c.args.value.now).slice.value.items.value.items)) (each_keys whole_keys (out-Whole c.args.value.now).slice.value.items.value.items)) ++ ((each_keys (λ y. (rc_keys y.key (one whole_shape) 0 (whole_meaning y.value.value) (whole_keys y.value.value))) (out-Whole c.args.value.now).ones.items) ++ []))) (list (each_meaning (λ y. (weak_value (λ s. (shared_value s.key)) y.value)) (out-Whole c.args.value.now).weaks.items)) (value (list (each_meaning (λ y. (option_meaning (λ y. (shared_value y.key)) y)) (out-Whole c.args.value.now).options.items)) (value (shared_value (out-Whole c.args.value.now).slice.key) (value (list (each_meaning (λ y. (shared_value y.key)) (out-Whole c.args.value.now).ones.items)) no_value))) _ _ _ _ _ c.in-Ok-serialize_vec_weak_shared_whole.ensures.serialized c.serialize_vec_weak_shared_whole.ensures.goes_on c.serialize_vec_option_shared_whole.ensures.goes_on (first_refused whole_definitions (both whole_definitions (both whole_definitions no_definition)) (vec (option_shape (shared rc_flavor (one whole_shape)))) (part (shared rc_flavor (run whole_shape)) (part (vec (shared rc_flavor (one whole_shape))) no_part)) (each_keys (λ y. (option_keys (λ y. (rc_keys y.key (one whole_shape) 0 (whole_meaning y.value.value) (whole_keys y.value.value))) y)) (out-Whole c.args.value.now).options.items) ((rc_keys (out-Whole c.args.value.now).slice.key (run whole_shape) (length (out-Whole c.args.value.now).slice.value.items.value.items) (list (each_meaning whole_meaning (out-Whole c.args.value.now).slice.value.items.value.items)) (each_keys whole_keys (out-Whole c.args.value.now).slice.value.items.value.items)) ++ ((each_keys (λ y. (rc_keys y.key (one whole_shape) 0 (whole_meaning y.value.value) (whole_keys y.value.value))) (out-Whole c.args.value.now).ones.items) ++ [])) (list (each_meaning (λ y. (option_meaning (λ y. (shared_value y.key)) y)) (out-Whole c.args.value.now).options.items)) (value (shared_value (out-Whole c.args.value.now).slice.key) (value (list (each_meaning (λ y. (shared_value y.key)) (out-Whole c.args.value.now).ones.items)) no_value)) _ _ _ (part_planned whole_definitions (shared rc_flavor (run whole_shape)) (rc_keys (out-Whole c.args.value.now).slice.key (run whole_shape) (length (out-Whole c.args.value.now).slice.value.items.value.items) (list (each_meaning whole_meaning (out-Whole c.args.value.now).slice.value.items.value.items)) (each_keys whole_keys (out-Whole c.args.value.now).slice.value.items.value.items)) (shared_value (out-Whole c.args.value.now).slice.key) (rc_planned whole_definitions (out-Whole c.args.value.now).slice.key (run whole_shape) _ _ _ (slice_planned whole_definitions whole_shape whole_keys whole_meaning whole_planned (out-Whole c.args.value.now).slice.value.items.value.items)) (part_planned whole_definitions (vec (shared rc_flavor (one whole_shape))) (each_keys (λ y. (rc_keys y.key (one whole_shape) 0 (whole_meaning y.value.value) (whole_keys y.value.value))) (out-Whole c.args.value.now).ones.items) (list (each_meaning (λ y. (shared_value y.key)) (out-Whole c.args.value.now).ones.items)) (vec_planned whole_definitions (shared rc_flavor (one whole_shape)) _ _ _ (slice_planned whole_definitions (shared rc_flavor (one whole_shape)) (λ y. (rc_keys y.key (one whole_shape) 0 (whole_meaning y.value.value) (whole_keys y.value.value))) (λ y. (shared_value y.key)) (λ y. (rc_one_planned whole_definitions y.key (one whole_shape) whole_shape refl _ _ (whole_planned y.value.value))) (out-Whole c.args.value.now).ones.items)) no_part_planned)) c.in-Err-serialize_vec_option_shared_whole.ensures.refused)))))
+
+pub serialize_whole_whole-returns-in-Err-serialize_vec_option_shared_whole-clause-goes_on : goal.serialize_whole_whole-returns-in-Err-serialize_vec_option_shared_whole-clause-goes_on
+serialize_whole_whole-returns-in-Err-serialize_vec_option_shared_whole-clause-goes_on g t c = (goes_both _ _ _ (goes_both _ _ _ c.serialize_weak_shared_whole.ensures.goes_on c.serialize_vec_weak_shared_whole.ensures.goes_on) c.serialize_vec_option_shared_whole.ensures.goes_on)
+
+pub serialize_whole_whole-returns-in-Err-serialize_shared_slice_whole-clause-refused : goal.serialize_whole_whole-returns-in-Err-serialize_shared_slice_whole-clause-refused
+serialize_whole_whole-returns-in-Err-serialize_shared_slice_whole-clause-refused g t c = (refused_as (whole_has_keys c.args.value.now) (whole_means c.args.value.now) (record_refused whole_definitions whole_shape whole_part_definitions whole_parts whole_has_parts _ _ _ _ _ (later_refused whole_definitions (both whole_definitions (both whole_definitions (both whole_definitions (both whole_definitions no_definition)))) (weak rc_flavor (one whole_shape)) (part (vec (weak rc_flavor (one whole_shape))) (part (vec (option_shape (shared rc_flavor (one whole_shape)))) (part (shared rc_flavor (run whole_shape)) (part (vec (shared rc_flavor (one whole_shape))) no_part)))) (option_keys (λ s. (rc_keys s.key (one whole_shape) 0 (whole_meaning s.value.value) (whole_keys s.value.value))) (out-Whole c.args.value.now).weak.value) ((each_keys (λ y. (option_keys (λ s. (rc_keys s.key (one whole_shape) 0 (whole_meaning s.value.value) (whole_keys s.value.value))) y.value)) (out-Whole c.args.value.now).weaks.items) ++ ((each_keys (λ y. (option_keys (λ y. (rc_keys y.key (one whole_shape) 0 (whole_meaning y.value.value) (whole_keys y.value.value))) y)) (out-Whole c.args.value.now).options.items) ++ ((rc_keys (out-Whole c.args.value.now).slice.key (run whole_shape) (length (out-Whole c.args.value.now).slice.value.items.value.items) (list (each_meaning whole_meaning (out-Whole c.args.value.now).slice.value.items.value.items)) (each_keys whole_keys (out-Whole c.args.value.now).slice.value.items.value.items)) ++ ((each_keys (λ y. (rc_keys y.key (one whole_shape) 0 (whole_meaning y.value.value) (whole_keys y.value.value))) (out-Whole c.args.value.now).ones.items) ++ [])))) (weak_value (λ s. (shared_value s.key)) (out-Whole c.args.value.now).weak.value) (value (list (each_meaning (λ y. (weak_value (λ s. (shared_value s.key)) y.value)) (out-Whole c.args.value.now).weaks.items)) (value (list (each_meaning (λ y. (option_meaning (λ y. (shared_value y.key)) y)) (out-Whole c.args.value.now).options.items)) (value (shared_value (out-Whole c.args.value.now).slice.key) (value (list (each_meaning (λ y. (shared_value y.key)) (out-Whole c.args.value.now).ones.items)) no_value)))) _ _ _ _ _ c.in-Ok.ensures.serialized c.serialize_weak_shared_whole.ensures.goes_on (goes_both _ _ _ (goes_both _ _ _ c.serialize_vec_weak_shared_whole.ensures.goes_on c.serialize_vec_option_shared_whole.ensures.goes_on) c.serialize_shared_slice_whole.ensures.goes_on) (later_refused whole_definitions (both whole_definitions (both whole_definitions (both whole_definitions no_definition))) (vec (weak rc_flavor (one whole_shape))) (part (vec (option_shape (shared rc_flavor (one whole_shape)))) (part (shared rc_flavor (run whole_shape)) (part (vec (shared rc_flavor (one whole_shape))) no_part))) (each_keys (λ y. (option_keys (λ s. (rc_keys s.key (one whole_shape) 0 (whole_meaning s.value.value) (whole_keys s.value.value))) y.value)) (out-Whole c.args.value.now).weaks.items) ((each_keys (λ y. (option_keys (λ y. (rc_keys y.key (one whole_shape) 0 (whole_meaning y.value.value) (whole_keys y.value.value))) y)) (out-Whole c.args.value.now).options.items) ++ ((rc_keys (out-Whole c.args.value.now).slice.key (run whole_shape) (length (out-Whole c.args.value.now).slice.value.items.value.items) (list (each_meaning whole_meaning (out-Whole c.args.value.now).slice.value.items.value.items)) (each_keys whole_keys (out-Whole c.args.value.now).slice.value.items.value.items)) ++ ((each_keys (λ y. (rc_keys y.key (one whole_shape) 0 (whole_meaning y.value.value) (whole_keys y.value.value))) (out-Whole c.args.value.now).ones.items) ++ []))) (list (each_meaning (λ y. (weak_value (λ s. (shared_value s.key)) y.value)) (out-Whole c.args.value.now).weaks.items)) (value (list (each_meaning (λ y. (option_meaning (λ y. (shared_value y.key)) y)) (out-Whole c.args.value.now).options.items)) (value (shared_value (out-Whole c.args.value.now).slice.key) (value (list (each_meaning (λ y. (shared_value y.key)) (out-Whole c.args.value.now).ones.items)) no_value))) _ _ _ _ _ c.in-Ok-serialize_vec_weak_shared_whole.ensures.serialized c.serialize_vec_weak_shared_whole.ensures.goes_on (goes_both _ _ _ c.serialize_vec_option_shared_whole.ensures.goes_on c.serialize_shared_slice_whole.ensures.goes_on) (later_refused whole_definitions (both whole_definitions (both whole_definitions no_definition)) (vec (option_shape (shared rc_flavor (one whole_shape)))) (part (shared rc_flavor (run whole_shape)) (part (vec (shared rc_flavor (one whole_shape))) no_part)) (each_keys (λ y. (option_keys (λ y. (rc_keys y.key (one whole_shape) 0 (whole_meaning y.value.value) (whole_keys y.value.value))) y)) (out-Whole c.args.value.now).options.items) ((rc_keys (out-Whole c.args.value.now).slice.key (run whole_shape) (length (out-Whole c.args.value.now).slice.value.items.value.items) (list (each_meaning whole_meaning (out-Whole c.args.value.now).slice.value.items.value.items)) (each_keys whole_keys (out-Whole c.args.value.now).slice.value.items.value.items)) ++ ((each_keys (λ y. (rc_keys y.key (one whole_shape) 0 (whole_meaning y.value.value) (whole_keys y.value.value))) (out-Whole c.args.value.now).ones.items) ++ [])) (list (each_meaning (λ y. (option_meaning (λ y. (shared_value y.key)) y)) (out-Whole c.args.value.now).options.items)) (value (shared_value (out-Whole c.args.value.now).slice.key) (value (list (each_meaning (λ y. (shared_value y.key)) (out-Whole c.args.value.now).ones.items)) no_value)) _ _ _ _ _ c.in-Ok-serialize_vec_option_shared_whole.ensures.serialized c.serialize_vec_option_shared_whole.ensures.goes_on c.serialize_shared_slice_whole.ensures.goes_on (first_refused whole_definitions (both whole_definitions no_definition) (shared rc_flavor (run whole_shape)) (part (vec (shared rc_flavor (one whole_shape))) no_part) (rc_keys (out-Whole c.args.value.now).slice.key (run whole_shape) (length (out-Whole c.args.value.now).slice.value.items.value.items) (list (each_meaning whole_meaning (out-Whole c.args.value.now).slice.value.items.value.items)) (each_keys whole_keys (out-Whole c.args.value.now).slice.value.items.value.items)) ((each_keys (λ y. (rc_keys y.key (one whole_shape) 0 (whole_meaning y.value.value) (whole_keys y.value.value))) (out-Whole c.args.value.now).ones.items) ++ []) (shared_value (out-Whole c.args.value.now).slice.key) (value (list (each_meaning (λ y. (shared_value y.key)) (out-Whole c.args.value.now).ones.items)) no_value) _ _ _ (part_planned whole_definitions (vec (shared rc_flavor (one whole_shape))) (each_keys (λ y. (rc_keys y.key (one whole_shape) 0 (whole_meaning y.value.value) (whole_keys y.value.value))) (out-Whole c.args.value.now).ones.items) (list (each_meaning (λ y. (shared_value y.key)) (out-Whole c.args.value.now).ones.items)) (vec_planned whole_definitions (shared rc_flavor (one whole_shape)) _ _ _ (slice_planned whole_definitions (shared rc_flavor (one whole_shape)) (λ y. (rc_keys y.key (one whole_shape) 0 (whole_meaning y.value.value) (whole_keys y.value.value))) (λ y. (shared_value y.key)) (λ y. (rc_one_planned whole_definitions y.key (one whole_shape) whole_shape refl _ _ (whole_planned y.value.value))) (out-Whole c.args.value.now).ones.items)) no_part_planned) (rw c.as_slice-items.ensures.value at c.in-Err-serialize_shared_slice_whole.ensures.refused)))))))
+
+pub serialize_whole_whole-returns-in-Err-serialize_shared_slice_whole-clause-goes_on : goal.serialize_whole_whole-returns-in-Err-serialize_shared_slice_whole-clause-goes_on
+serialize_whole_whole-returns-in-Err-serialize_shared_slice_whole-clause-goes_on g t c = (goes_both _ _ _ (goes_both _ _ _ (goes_both _ _ _ c.serialize_weak_shared_whole.ensures.goes_on c.serialize_vec_weak_shared_whole.ensures.goes_on) c.serialize_vec_option_shared_whole.ensures.goes_on) c.serialize_shared_slice_whole.ensures.goes_on)
+
+pub serialize_whole_whole-returns-in-Err-serialize_vec_shared_whole-clause-refused : goal.serialize_whole_whole-returns-in-Err-serialize_vec_shared_whole-clause-refused
+serialize_whole_whole-returns-in-Err-serialize_vec_shared_whole-clause-refused g t c = (refused_as (whole_has_keys c.args.value.now) (whole_means c.args.value.now) (record_refused whole_definitions whole_shape whole_part_definitions whole_parts whole_has_parts _ _ _ _ _ (later_refused whole_definitions (both whole_definitions (both whole_definitions (both whole_definitions (both whole_definitions no_definition)))) (weak rc_flavor (one whole_shape)) (part (vec (weak rc_flavor (one whole_shape))) (part (vec (option_shape (shared rc_flavor (one whole_shape)))) (part (shared rc_flavor (run whole_shape)) (part (vec (shared rc_flavor (one whole_shape))) no_part)))) (option_keys (λ s. (rc_keys s.key (one whole_shape) 0 (whole_meaning s.value.value) (whole_keys s.value.value))) (out-Whole c.args.value.now).weak.value) ((each_keys (λ y. (option_keys (λ s. (rc_keys s.key (one whole_shape) 0 (whole_meaning s.value.value) (whole_keys s.value.value))) y.value)) (out-Whole c.args.value.now).weaks.items) ++ ((each_keys (λ y. (option_keys (λ y. (rc_keys y.key (one whole_shape) 0 (whole_meaning y.value.value) (whole_keys y.value.value))) y)) (out-Whole c.args.value.now).options.items) ++ ((rc_keys (out-Whole c.args.value.now).slice.key (run whole_shape) (length (out-Whole c.args.value.now).slice.value.items.value.items) (list (each_meaning whole_meaning (out-Whole c.args.value.now).slice.value.items.value.items)) (each_keys whole_keys (out-Whole c.args.value.now).slice.value.items.value.items)) ++ ((each_keys (λ y. (rc_keys y.key (one whole_shape) 0 (whole_meaning y.value.value) (whole_keys y.value.value))) (out-Whole c.args.value.now).ones.items) ++ [])))) (weak_value (λ s. (shared_value s.key)) (out-Whole c.args.value.now).weak.value) (value (list (each_meaning (λ y. (weak_value (λ s. (shared_value s.key)) y.value)) (out-Whole c.args.value.now).weaks.items)) (value (list (each_meaning (λ y. (option_meaning (λ y. (shared_value y.key)) y)) (out-Whole c.args.value.now).options.items)) (value (shared_value (out-Whole c.args.value.now).slice.key) (value (list (each_meaning (λ y. (shared_value y.key)) (out-Whole c.args.value.now).ones.items)) no_value)))) _ _ _ _ _ c.in-Ok.ensures.serialized c.serialize_weak_shared_whole.ensures.goes_on (goes_both _ _ _ (goes_both _ _ _ (goes_both _ _ _ c.serialize_vec_weak_shared_whole.ensures.goes_on c.serialize_vec_option_shared_whole.ensures.goes_on) c.serialize_shared_slice_whole.ensures.goes_on) c.serialize_vec_shared_whole.ensures.goes_on) (later_refused whole_definitions (both whole_definitions (both whole_definitions (both whole_definitions no_definition))) (vec (weak rc_flavor (one whole_shape))) (part (vec (option_shape (shared rc_flavor (one whole_shape)))) (part (shared rc_flavor (run whole_shape)) (part (vec (shared rc_flavor (one whole_shape))) no_part))) (each_keys (λ y. (option_keys (λ s. (rc_keys s.key (one whole_shape) 0 (whole_meaning s.value.value) (whole_keys s.value.value))) y.value)) (out-Whole c.args.value.now).weaks.items) ((each_keys (λ y. (option_keys (λ y. (rc_keys y.key (one whole_shape) 0 (whole_meaning y.value.value) (whole_keys y.value.value))) y)) (out-Whole c.args.value.now).options.items) ++ ((rc_keys (out-Whole c.args.value.now).slice.key (run whole_shape) (length (out-Whole c.args.value.now).slice.value.items.value.items) (list (each_meaning whole_meaning (out-Whole c.args.value.now).slice.value.items.value.items)) (each_keys whole_keys (out-Whole c.args.value.now).slice.value.items.value.items)) ++ ((each_keys (λ y. (rc_keys y.key (one whole_shape) 0 (whole_meaning y.value.value) (whole_keys y.value.value))) (out-Whole c.args.value.now).ones.items) ++ []))) (list (each_meaning (λ y. (weak_value (λ s. (shared_value s.key)) y.value)) (out-Whole c.args.value.now).weaks.items)) (value (list (each_meaning (λ y. (option_meaning (λ y. (shared_value y.key)) y)) (out-Whole c.args.value.now).options.items)) (value (shared_value (out-Whole c.args.value.now).slice.key) (value (list (each_meaning (λ y. (shared_value y.key)) (out-Whole c.args.value.now).ones.items)) no_value))) _ _ _ _ _ c.in-Ok-serialize_vec_weak_shared_whole.ensures.serialized c.serialize_vec_weak_shared_whole.ensures.goes_on (goes_both _ _ _ (goes_both _ _ _ c.serialize_vec_option_shared_whole.ensures.goes_on c.serialize_shared_slice_whole.ensures.goes_on) c.serialize_vec_shared_whole.ensures.goes_on) (later_refused whole_definitions (both whole_definitions (both whole_definitions no_definition)) (vec (option_shape (shared rc_flavor (one whole_shape)))) (part (shared rc_flavor (run whole_shape)) (part (vec (shared rc_flavor (one whole_shape))) no_part)) (each_keys (λ y. (option_keys (λ y. (rc_keys y.key (one whole_shape) 0 (whole_meaning y.value.value) (whole_keys y.value.value))) y)) (out-Whole c.args.value.now).options.items) ((rc_keys (out-Whole c.args.value.now).slice.key (run whole_shape) (length (out-Whole c.args.value.now).slice.value.items.value.items) (list (each_meaning whole_meaning (out-Whole c.args.value.now).slice.value.items.value.items)) (each_keys whole_keys (out-Whole c.args.value.now).slice.value.items.value.items)) ++ ((each_keys (λ y. (rc_keys y.key (one whole_shape) 0 (whole_meaning y.value.value) (whole_keys y.value.value))) (out-Whole c.args.value.now).ones.items) ++ [])) (list (each_meaning (λ y. (option_meaning (λ y. (shared_value y.key)) y)) (out-Whole c.args.value.now).options.items)) (value (shared_value (out-Whole c.args.value.now).slice.key) (value (list (each_meaning (λ y. (shared_value y.key)) (out-Whole c.args.value.now).ones.items)) no_value)) _ _ _ _ _ c.in-Ok-serialize_vec_option_shared_whole.ensures.serialized c.serialize_vec_option_shared_whole.ensures.goes_on (goes_both _ _ _ c.serialize_shared_slice_whole.ensures.goes_on c.serialize_vec_shared_whole.ensures.goes_on) (later_refused whole_definitions (both whole_definitions no_definition) (shared rc_flavor (run whole_shape)) (part (vec (shared rc_flavor (one whole_shape))) no_part) (rc_keys (out-Whole c.args.value.now).slice.key (run whole_shape) (length (out-Whole c.args.value.now).slice.value.items.value.items) (list (each_meaning whole_meaning (out-Whole c.args.value.now).slice.value.items.value.items)) (each_keys whole_keys (out-Whole c.args.value.now).slice.value.items.value.items)) ((each_keys (λ y. (rc_keys y.key (one whole_shape) 0 (whole_meaning y.value.value) (whole_keys y.value.value))) (out-Whole c.args.value.now).ones.items) ++ []) (shared_value (out-Whole c.args.value.now).slice.key) (value (list (each_meaning (λ y. (shared_value y.key)) (out-Whole c.args.value.now).ones.items)) no_value) _ _ _ _ _ (rw c.as_slice-items.ensures.value at c.in-Ok-serialize_shared_slice_whole.ensures.serialized) c.serialize_shared_slice_whole.ensures.goes_on c.serialize_vec_shared_whole.ensures.goes_on (first_refused whole_definitions no_definition (vec (shared rc_flavor (one whole_shape))) no_part (each_keys (λ y. (rc_keys y.key (one whole_shape) 0 (whole_meaning y.value.value) (whole_keys y.value.value))) (out-Whole c.args.value.now).ones.items) [] (list (each_meaning (λ y. (shared_value y.key)) (out-Whole c.args.value.now).ones.items)) no_value _ _ _ no_part_planned c.in-Err-serialize_vec_shared_whole.ensures.refused)))))))
+
+pub serialize_whole_whole-returns-in-Err-serialize_vec_shared_whole-clause-goes_on : goal.serialize_whole_whole-returns-in-Err-serialize_vec_shared_whole-clause-goes_on
+serialize_whole_whole-returns-in-Err-serialize_vec_shared_whole-clause-goes_on g t c = (goes_both _ _ _ (goes_both _ _ _ (goes_both _ _ _ (goes_both _ _ _ c.serialize_weak_shared_whole.ensures.goes_on c.serialize_vec_weak_shared_whole.ensures.goes_on) c.serialize_vec_option_shared_whole.ensures.goes_on) c.serialize_shared_slice_whole.ensures.goes_on) c.serialize_vec_shared_whole.ensures.goes_on)
+
+pub serialize_whole_whole-returns-clause-serialized : goal.serialize_whole_whole-returns-clause-serialized
+serialize_whole_whole-returns-clause-serialized g t c = (written_as (whole_has_keys c.args.value.now) (whole_means c.args.value.now) refl (serialized_record whole_definitions whole_shape whole_part_definitions whole_parts whole_has_parts _ _ _ _ _ (serialized_part whole_definitions (both whole_definitions (both whole_definitions (both whole_definitions (both whole_definitions no_definition)))) (weak rc_flavor (one whole_shape)) (part (vec (weak rc_flavor (one whole_shape))) (part (vec (option_shape (shared rc_flavor (one whole_shape)))) (part (shared rc_flavor (run whole_shape)) (part (vec (shared rc_flavor (one whole_shape))) no_part)))) (option_keys (λ s. (rc_keys s.key (one whole_shape) 0 (whole_meaning s.value.value) (whole_keys s.value.value))) (out-Whole c.args.value.now).weak.value) ((each_keys (λ y. (option_keys (λ s. (rc_keys s.key (one whole_shape) 0 (whole_meaning s.value.value) (whole_keys s.value.value))) y.value)) (out-Whole c.args.value.now).weaks.items) ++ ((each_keys (λ y. (option_keys (λ y. (rc_keys y.key (one whole_shape) 0 (whole_meaning y.value.value) (whole_keys y.value.value))) y)) (out-Whole c.args.value.now).options.items) ++ ((rc_keys (out-Whole c.args.value.now).slice.key (run whole_shape) (length (out-Whole c.args.value.now).slice.value.items.value.items) (list (each_meaning whole_meaning (out-Whole c.args.value.now).slice.value.items.value.items)) (each_keys whole_keys (out-Whole c.args.value.now).slice.value.items.value.items)) ++ ((each_keys (λ y. (rc_keys y.key (one whole_shape) 0 (whole_meaning y.value.value) (whole_keys y.value.value))) (out-Whole c.args.value.now).ones.items) ++ [])))) (weak_value (λ s. (shared_value s.key)) (out-Whole c.args.value.now).weak.value) (value (list (each_meaning (λ y. (weak_value (λ s. (shared_value s.key)) y.value)) (out-Whole c.args.value.now).weaks.items)) (value (list (each_meaning (λ y. (option_meaning (λ y. (shared_value y.key)) y)) (out-Whole c.args.value.now).options.items)) (value (shared_value (out-Whole c.args.value.now).slice.key) (value (list (each_meaning (λ y. (shared_value y.key)) (out-Whole c.args.value.now).ones.items)) no_value)))) _ _ _ _ _ c.in-Ok.ensures.serialized (serialized_part whole_definitions (both whole_definitions (both whole_definitions (both whole_definitions no_definition))) (vec (weak rc_flavor (one whole_shape))) (part (vec (option_shape (shared rc_flavor (one whole_shape)))) (part (shared rc_flavor (run whole_shape)) (part (vec (shared rc_flavor (one whole_shape))) no_part))) (each_keys (λ y. (option_keys (λ s. (rc_keys s.key (one whole_shape) 0 (whole_meaning s.value.value) (whole_keys s.value.value))) y.value)) (out-Whole c.args.value.now).weaks.items) ((each_keys (λ y. (option_keys (λ y. (rc_keys y.key (one whole_shape) 0 (whole_meaning y.value.value) (whole_keys y.value.value))) y)) (out-Whole c.args.value.now).options.items) ++ ((rc_keys (out-Whole c.args.value.now).slice.key (run whole_shape) (length (out-Whole c.args.value.now).slice.value.items.value.items) (list (each_meaning whole_meaning (out-Whole c.args.value.now).slice.value.items.value.items)) (each_keys whole_keys (out-Whole c.args.value.now).slice.value.items.value.items)) ++ ((each_keys (λ y. (rc_keys y.key (one whole_shape) 0 (whole_meaning y.value.value) (whole_keys y.value.value))) (out-Whole c.args.value.now).ones.items) ++ []))) (list (each_meaning (λ y. (weak_value (λ s. (shared_value s.key)) y.value)) (out-Whole c.args.value.now).weaks.items)) (value (list (each_meaning (λ y. (option_meaning (λ y. (shared_value y.key)) y)) (out-Whole c.args.value.now).options.items)) (value (shared_value (out-Whole c.args.value.now).slice.key) (value (list (each_meaning (λ y. (shared_value y.key)) (out-Whole c.args.value.now).ones.items)) no_value))) _ _ _ _ _ c.in-Ok-serialize_vec_weak_shared_whole.ensures.serialized (serialized_part whole_definitions (both whole_definitions (both whole_definitions no_definition)) (vec (option_shape (shared rc_flavor (one whole_shape)))) (part (shared rc_flavor (run whole_shape)) (part (vec (shared rc_flavor (one whole_shape))) no_part)) (each_keys (λ y. (option_keys (λ y. (rc_keys y.key (one whole_shape) 0 (whole_meaning y.value.value) (whole_keys y.value.value))) y)) (out-Whole c.args.value.now).options.items) ((rc_keys (out-Whole c.args.value.now).slice.key (run whole_shape) (length (out-Whole c.args.value.now).slice.value.items.value.items) (list (each_meaning whole_meaning (out-Whole c.args.value.now).slice.value.items.value.items)) (each_keys whole_keys (out-Whole c.args.value.now).slice.value.items.value.items)) ++ ((each_keys (λ y. (rc_keys y.key (one whole_shape) 0 (whole_meaning y.value.value) (whole_keys y.value.value))) (out-Whole c.args.value.now).ones.items) ++ [])) (list (each_meaning (λ y. (option_meaning (λ y. (shared_value y.key)) y)) (out-Whole c.args.value.now).options.items)) (value (shared_value (out-Whole c.args.value.now).slice.key) (value (list (each_meaning (λ y. (shared_value y.key)) (out-Whole c.args.value.now).ones.items)) no_value)) _ _ _ _ _ c.in-Ok-serialize_vec_option_shared_whole.ensures.serialized (serialized_part whole_definitions (both whole_definitions no_definition) (shared rc_flavor (run whole_shape)) (part (vec (shared rc_flavor (one whole_shape))) no_part) (rc_keys (out-Whole c.args.value.now).slice.key (run whole_shape) (length (out-Whole c.args.value.now).slice.value.items.value.items) (list (each_meaning whole_meaning (out-Whole c.args.value.now).slice.value.items.value.items)) (each_keys whole_keys (out-Whole c.args.value.now).slice.value.items.value.items)) ((each_keys (λ y. (rc_keys y.key (one whole_shape) 0 (whole_meaning y.value.value) (whole_keys y.value.value))) (out-Whole c.args.value.now).ones.items) ++ []) (shared_value (out-Whole c.args.value.now).slice.key) (value (list (each_meaning (λ y. (shared_value y.key)) (out-Whole c.args.value.now).ones.items)) no_value) _ _ _ _ _ (rw c.as_slice-items.ensures.value at c.in-Ok-serialize_shared_slice_whole.ensures.serialized) (serialized_part whole_definitions no_definition (vec (shared rc_flavor (one whole_shape))) no_part (each_keys (λ y. (rc_keys y.key (one whole_shape) 0 (whole_meaning y.value.value) (whole_keys y.value.value))) (out-Whole c.args.value.now).ones.items) [] (list (each_meaning (λ y. (shared_value y.key)) (out-Whole c.args.value.now).ones.items)) no_value _ _ _ _ _ c.in-Ok-serialize_vec_shared_whole.ensures.serialized (serialized_no_part no_definition _))))))))
+
+pub serialize_whole_whole-returns-clause-goes_on : goal.serialize_whole_whole-returns-clause-goes_on
+serialize_whole_whole-returns-clause-goes_on g t c = (goes_both _ _ _ (goes_both _ _ _ (goes_both _ _ _ (goes_both _ _ _ c.serialize_weak_shared_whole.ensures.goes_on c.serialize_vec_weak_shared_whole.ensures.goes_on) c.serialize_vec_option_shared_whole.ensures.goes_on) c.serialize_shared_slice_whole.ensures.goes_on) c.serialize_vec_shared_whole.ensures.goes_on)

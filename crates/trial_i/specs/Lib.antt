@@ -1,0 +1,2 @@
+pub mod WholeMeaning
+pub mod WholeShape

@@ -1,0 +1,19 @@
+-- Written by tools/derive: change the declaration, and run it again.
+use Rattle.archive_core.proofs.ReadChoices.{variant_read_back, variant_refuses}
+use Rattle.archive_core.proofs.ReadRecords.{first_refuses}
+use Rattle.archive_core.specs.Definitions.{no_definition}
+use Rattle.archive_core.specs.Held.{read_as}
+use Rattle.archive_core.specs.PartsReading.{part_read_back, no_part_read_back}
+use Rattle.archive_core.specs.Shape.{leaf, unsigned, no_part, number as number_kind}
+use Rattle.std.proofs.Common.{[], length, refl}
+use Rattle.std.specs.Int.{w8}
+use Rattle.std.specs.Prelude.{[], refl, length}
+use Rattle.trial_j.specs.MixMeaning.{mix_leaf_means, mix_leaf_has_keys}
+use Rattle.trial_j.specs.MixShape.{mix_name, mix_shape, mix_definitions, mix_variants, mix_variant_definitions, mix_has_variants, mix_leaf_parts, mix_leaf_definitions}
+use Rattle.trial_j.proofs.mix.read_mix_leaf.Goals as goal
+
+pub returns-in-Err-clause-refused : goal.returns-in-Err-clause-refused
+returns-in-Err-clause-refused g c = (variant_refuses mix_definitions mix_shape mix_name mix_variant_definitions mix_variants mix_has_variants 0 mix_leaf_parts refl mix_leaf_definitions refl _ _ _ c.requires.tag _ _ (first_refuses no_definition no_definition (leaf (number_kind unsigned w8)) (record { size = 1; align = 1 }) (record { solved = λ s k. refl }) no_part _ _ 1 _ _ (rw (c.part_of_variant-p0.ensures.buffer, c.part_of_variant-p0.ensures.position, c.part_of_variant-p0.ensures.length) at c.in-Err.ensures.refused)))
+
+pub returns-clause-read : goal.returns-clause-read
+returns-clause-read g c = read_as (mix_leaf_has_keys c.in-Ok.a0) (mix_leaf_means c.in-Ok.a0) (variant_read_back mix_definitions mix_shape mix_name mix_variant_definitions mix_variants mix_has_variants 0 mix_leaf_parts refl mix_leaf_definitions refl _ _ _ c.requires.tag _ _ _ _ (part_read_back {L = (record { size = 1; align = 1 })} {ks = []} {ls = []} (record { solved = λ s k. refl }) (rw (c.part_of_variant-p0.ensures.buffer, c.part_of_variant-p0.ensures.position, c.part_of_variant-p0.ensures.length) at c.in-Ok.ensures.read) no_part_read_back))

@@ -1,0 +1,2 @@
+pub mod MixMeaning
+pub mod MixShape

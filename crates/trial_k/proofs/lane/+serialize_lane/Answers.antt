@@ -1,0 +1,474 @@
+-- Written by tools/derive: change the declaration, and run it again.
+use Rattle.archive_core.proofs.Causes.{err_by, goes_both, goes_nowhere, explains_sooner}
+use Rattle.archive_core.proofs.OwnChoices.{serialized_variant, variant_refused}
+use Rattle.archive_core.proofs.Owners.{vec_refused}
+use Rattle.archive_core.proofs.Planned.{one_owned}
+use Rattle.archive_core.proofs.PlannedParts.{serialized_no_part, serialized_part, serialized_record, record_refused, first_refused, later_refused}
+use Rattle.archive_core.proofs.RunRegions.{run_owned, long_run_refused}
+use Rattle.archive_core.proofs.Runs.{continues_step, continues_broken, continues_end, belongs_end}
+use Rattle.archive_core.proofs.WrittenVariants.{serialized_case, serialized_empty_case, case_refused}
+use Rattle.archive_core.proofs.recursive.KeysBegun.{region_refused}
+use Rattle.archive_core.specs.Causes.{no_memory, ValuePart, part_itself, HindersPart, stands_too_far, owner_shared, owner_weak, shared_too_long, shared_owner, weak_owner, IsRefused}
+use Rattle.archive_core.specs.Choices.{option_shape}
+use Rattle.archive_core.specs.Definitions.{Definitions, both, no_definition}
+use Rattle.archive_core.specs.Denotes.{Naming, fills_null}
+use Rattle.archive_core.specs.Error.{Error}
+use Rattle.archive_core.specs.Error.TheVariants.{OutOfMemory}
+use Rattle.archive_core.specs.Held.{written_as, refused_as}
+use Rattle.archive_core.specs.Options.{option_keys, option_meaning, option_planned}
+use Rattle.archive_core.specs.PartsPlanned.{part_planned, no_part_planned}
+use Rattle.archive_core.specs.PlannedOwners.{vec_planned, slice_planned, each_planned}
+use Rattle.archive_core.specs.Plans.{Serialized, serialized, cursor, plans_null}
+use Rattle.archive_core.specs.Reads.{SchemaTable}
+use Rattle.archive_core.specs.Runs.{each_keys, each_meaning}
+use Rattle.archive_core.specs.Shape.{Shape, named, choice, shared, weak, vec, one, run, leaf, unsigned, part, no_part, variant, no_variant, Pointee, number as number_kind}
+use Rattle.archive_core.specs.SharedLaws.{weak_value, weak_planned, as_weak}
+use Rattle.archive_core.specs.SharedSources.{rc_flavor, rc_keys, rc_one_planned, rc_planned}
+use Rattle.archive_core.specs.Value.{Value, case, list, number, value, no_value, null, shared_value}
+use Rattle.archive_core.specs.WriterState.{WriterState}
+use Rattle.std.proofs.Common.{inl, inr, ◌≡◌, ◌<◌, ◌++◌, [], ℕ, List, length, refl, arith, pos, ⊎_elim}
+use Rattle.std.proofs.Math.ListN.{drop_of_length-le}
+use Rattle.std.proofs.lemmas.Grind.{common_steps}
+use Rattle.std.specs.Int.{w8}
+use Rattle.std.specs.Prelude.{ℕ, List, [], ◌++◌, ◌≡◌, refl, pos, length, codes, None, Some}
+use Rattle.trial_k.proofs.lane.+serialize_lane.Goals.{serialize_each_option_shared_lane-in-None+in_ok-map_err-in-None, serialize_each_option_shared_lane-in-Some+in-Ok+in_ok-map_err-in-Some, serialize_each_weak_shared_turn-in-None+in_ok-map_err-in-None, serialize_each_weak_shared_turn-in-Some+in-Ok+in_ok-map_err-in-Some}
+use Rattle.trial_k.specs.LaneMeaning.{lane_meaning, lane_keys, lane_planned, lane_means, lane_has_keys, turn_meaning, turn_keys, turn_planned, turn_leaf_means, turn_leaf_has_keys, turn_leaf_opens, turn_weak_means, turn_weak_has_keys, turn_weak_opens, turn_weaks_means, turn_weaks_has_keys, turn_weaks_opens, turn_slice_means, turn_slice_has_keys, turn_slice_opens, turn_one_means, turn_one_has_keys, turn_one_opens}
+use Rattle.trial_k.specs.LaneShape.{lane_shape, lane_definitions, lane_parts, lane_part_definitions, lane_has_parts, turn_name, turn_shape, turn_definitions, turn_variants, turn_variant_definitions, turn_has_variants, turn_weak_parts, turn_weak_definitions, turn_weaks_parts, turn_weaks_definitions, turn_slice_parts, turn_slice_definitions, turn_one_parts, turn_one_definitions}
+use Rattle.trial_k.specs.declared.lane.Lane.{out-Lane}
+use Rattle.trial_k.proofs.lane.+serialize_lane.Goals as goal
+
+weak_serialized : (D : Definitions) (P : Pointee) (ks : List Naming) (v flat : Value) (old new : WriterState) → Serialized D (shared rc_flavor P) ks v flat old new → Serialized D (weak rc_flavor P) ks v flat old new
+weak_serialized D P ks v flat old new (serialized writes planned) = serialized writes (λ below s names k m. (
+    let q = planned below s names k m in
+    record { flat = q.flat; steps = q.steps; stop = q.stop; plans = as_weak q.plans; such = q.such }))
+
+null_serialized : (D : Definitions) (P : Pointee) (w : WriterState) → Serialized D (weak rc_flavor P) [] null null w w
+null_serialized D P w = as_null (serialized_empty_case D (codes "") (variant no_part no_variant) 0 refl w)
+  where
+    as_null : Serialized D (choice (codes "") (variant no_part no_variant)) [] (case 0 no_value) (case 0 no_value) w w → Serialized D (weak rc_flavor P) [] null null w w
+    as_null (serialized writes planned) = serialized
+        (record { added = writes.added; grown = writes.grown; states = writes.states; finished = λ k n. elim n [ ]; appends = writes.appends; fills = λ x c. fills_null })
+        (λ below s names k n. record { flat = null; steps = []; stop = cursor w; plans = plans_null; such = (refl, record { position = refl; keys = λ key. refl }) })
+
+weak_part : {s : SchemaTable} {P : Pointee} {v : Value} {o : ℕ} {Y : Shape} {w : Value} {e : Error} → ValuePart s (shared rc_flavor P) v o Y w → HindersPart Y w e
+    → (Z : Shape) × ValuePart s (weak rc_flavor P) v o Z w × HindersPart Z w e
+weak_part {P = P} part_itself (stands_too_far owner_shared there far) = (weak rc_flavor P, part_itself, stands_too_far owner_weak there far)
+weak_part {P = P} part_itself (shared_too_long shared_owner long) = (weak rc_flavor P, part_itself, shared_too_long weak_owner long)
+
+weak_refused : (D : Definitions) (P : Pointee) (ks : List Naming) (v : Value) (old new : WriterState) (e : Error) → IsRefused D (shared rc_flavor P) ks v old new e → IsRefused D (weak rc_flavor P) ks v old new e
+weak_refused D P ks v old new e h = explains_sooner _ _ _ _ old new e
+    (λ x. record {
+      named = x.named;
+      cause = λ below s names k m. (
+          let q = x.cause below s names k m in
+          record {
+            flat = q.flat;
+            steps = q.steps;
+            stop = q.stop;
+            plans = as_weak q.plans;
+            such = ⊎_elim inl (λ y. (let z = weak_part y.3 y.4 in inr (y.0, z.0, y.2, z.1, z.2))) q.such;
+          });
+    })
+    (λ m x below s names k l. (let q = x below s names k l in record { flat = q.flat; steps = q.steps; stop = q.stop; plans = as_weak q.plans; such = q.such })) h
+
+pub serialize_weak_shared_turn-returns-in-None-clause-serialized : goal.serialize_weak_shared_turn-returns-in-None-clause-serialized
+serialize_weak_shared_turn-returns-in-None-clause-serialized g t c = rw c.in-None.is (null_serialized lane_definitions (one turn_shape) _)
+
+pub serialize_weak_shared_turn-returns-in-Err-clause-refused : goal.serialize_weak_shared_turn-returns-in-Err-clause-refused
+serialize_weak_shared_turn-returns-in-Err-clause-refused g t c = rw c.in-Some.is (weak_refused lane_definitions (one turn_shape) _ _ _ _ _ (c.in-Err.ensures.refused.said lane_definitions rc_flavor (one turn_shape) 0 (turn_keys c.in-Some.whole.value.value) (turn_meaning c.in-Some.whole.value.value)))
+
+pub serialize_weak_shared_turn-returns-in-Err-serialize_turn-clause-goes_on : goal.serialize_weak_shared_turn-returns-in-Err-serialize_turn-clause-goes_on
+serialize_weak_shared_turn-returns-in-Err-serialize_turn-clause-goes_on g t c = (goes_both _ _ _ c.begin_shared.ensures.goes_on c.serialize_turn.ensures.goes_on)
+
+pub serialize_weak_shared_turn-returns-in-Err-serialize_turn-clause-refused : goal.serialize_weak_shared_turn-returns-in-Err-serialize_turn-clause-refused
+serialize_weak_shared_turn-returns-in-Err-serialize_turn-clause-refused g t c = rw c.in-Some.is (weak_refused lane_definitions (one turn_shape) _ _ _ _ _ (let same : c.deref-inner.result.now ≡ c.in-Some.whole.value.value = grind (arith, common_steps) in rw (← same) (region_refused lane_definitions (one turn_shape) 0 c.in-Some.whole.key _ _ rc_flavor _ _ _ _ (rw c.in-None-known.is at c.in-Ok.ensures.begun) c.serialize_turn.ensures.goes_on (one_owned lane_definitions turn_shape _ _ _ _ _ c.in-Err-serialize_turn.ensures.refused))))
+
+pub serialize_weak_shared_turn-returns-in-Err-finish_shared-clause-goes_on : goal.serialize_weak_shared_turn-returns-in-Err-finish_shared-clause-goes_on
+serialize_weak_shared_turn-returns-in-Err-finish_shared-clause-goes_on g t c = (c.finish_shared.ensures.goes_on.since _ _ (rw c.in-None-known.is at c.in-Ok.ensures.begun) c.serialize_turn.ensures.goes_on)
+
+pub serialize_weak_shared_turn-returns-in-Err-finish_shared-clause-refused : goal.serialize_weak_shared_turn-returns-in-Err-finish_shared-clause-refused
+serialize_weak_shared_turn-returns-in-Err-finish_shared-clause-refused g t c = rw c.in-Some.is (weak_refused lane_definitions (one turn_shape) _ _ _ _ _ (let same : c.deref-inner.result.now ≡ c.in-Some.whole.value.value = grind (arith, common_steps) in rw (← same) (c.in-Err-finish_shared.ensures.refused.since rc_flavor _ _ (rw c.in-None-known.is at c.in-Ok.ensures.begun) c.serialize_turn.ensures.goes_on c.in-Ok-serialize_turn.ensures.serialized)))
+
+pub serialize_weak_shared_turn-returns-in-Some-known-clause-serialized : goal.serialize_weak_shared_turn-returns-in-Some-known-clause-serialized
+serialize_weak_shared_turn-returns-in-Some-known-clause-serialized g t c = rw c.in-Some.is (weak_serialized lane_definitions (one turn_shape) _ _ _ _ _ ((rw c.in-Some-known.is at c.in-Ok.ensures.known).said lane_definitions rc_flavor (one turn_shape) 0 (turn_keys c.in-Some.whole.value.value) (turn_meaning c.in-Some.whole.value.value)))
+
+pub serialize_weak_shared_turn-returns-in-Ok-finish_shared-clause-serialized : goal.serialize_weak_shared_turn-returns-in-Ok-finish_shared-clause-serialized
+serialize_weak_shared_turn-returns-in-Ok-finish_shared-clause-serialized g t c = rw c.in-Some.is (weak_serialized lane_definitions (one turn_shape) _ _ _ _ _ (let same : c.deref-inner.result.now ≡ c.in-Some.whole.value.value = grind (arith, common_steps) in rw (← same) (c.in-Ok-finish_shared.ensures.shared.since rc_flavor _ _ (rw c.in-None-known.is at c.in-Ok.ensures.begun) c.serialize_turn.ensures.goes_on c.in-Ok-serialize_turn.ensures.serialized)))
+
+pub serialize_weak_shared_turn-returns-in-Ok-finish_shared-clause-goes_on : goal.serialize_weak_shared_turn-returns-in-Ok-finish_shared-clause-goes_on
+serialize_weak_shared_turn-returns-in-Ok-finish_shared-clause-goes_on g t c = (c.finish_shared.ensures.goes_on.since _ _ (rw c.in-None-known.is at c.in-Ok.ensures.begun) c.serialize_turn.ensures.goes_on)
+
+pub serialize_each_turn-returns-in_err-resolvers-clause-refused : goal.serialize_each_turn-returns-in_err-resolvers-clause-refused
+serialize_each_turn-returns-in_err-resolvers-clause-refused g t c = err_by c.from_residual.result OutOfMemory _ c.from_residual.ensures.1 no_memory
+
+pub serialize_each_turn-returns-in-Err-clause-goes_on : goal.serialize_each_turn-returns-in-Err-clause-goes_on
+serialize_each_turn-returns-in-Err-clause-goes_on g t c = goes_both _ _ _ c.loop-value.invariant.continues.goes c.serialize_turn.ensures.goes_on
+
+pub serialize_each_turn-returns-in-Err-clause-refused : goal.serialize_each_turn-returns-in-Err-clause-refused
+serialize_each_turn-returns-in-Err-clause-refused g t c = rw c.handed_on.ensures (continues_broken _ _ _ _ _ _ _ _ _ _ c.loop-value.value-index _ _ _ c.loop-value-test.true c.value-item.is turn_planned c.loop-value.invariant.continues c.serialize_turn.ensures.goes_on c.in-Err.ensures.refused)
+
+pub serialize_each_turn-returns-in_err-resolvers-clause-goes_on : goal.serialize_each_turn-returns-in_err-resolvers-clause-goes_on
+serialize_each_turn-returns-in_err-resolvers-clause-goes_on g t c = goes_nowhere _
+
+pub serialize_each_turn-loop-value-preserved : goal.serialize_each_turn-loop-value-preserved
+serialize_each_turn-loop-value-preserved g t c = record { continues = continues_step _ _ _ _ _ _ _ _ _ _ c.loop-value.value-index _ _ _ _ c.loop-value-test.true c.value-item.is (grind (arith, common_steps)) c.loop-value.invariant.continues c.in-Ok.ensures.serialized c.in-Ok.ensures.same_value c.serialize_turn.ensures.goes_on; reserved = (grind (arith, common_steps, c.loop-value.invariant.reserved.0), grind (arith, common_steps, c.loop-value.invariant.reserved.1)) }
+
+pub serialize_each_turn-returns-clause-serialized : goal.serialize_each_turn-returns-clause-serialized
+serialize_each_turn-returns-clause-serialized g t c = continues_end _ _ _ _ _ _ _ _ _ _ _ (drop_of_length-le _ c.loop-value-test.false) c.loop-value.invariant.continues
+
+pub serialize_each_turn-returns-clause-same_values : goal.serialize_each_turn-returns-clause-same_values
+serialize_each_turn-returns-clause-same_values g t c = belongs_end _ _ _ _ _ _ _ _ _ _ _ (drop_of_length-le _ c.loop-value-test.false) c.loop-value.invariant.continues
+
+pub serialize_shared_slice_turn-returns-in-Err-clause-refused : goal.serialize_shared_slice_turn-returns-in-Err-clause-refused
+serialize_shared_slice_turn-returns-in-Err-clause-refused g t c = (c.in-Err.ensures.refused.said lane_definitions rc_flavor turn_shape (each_keys turn_keys c.args.values.now) (each_meaning turn_meaning c.args.values.now) (each_planned lane_definitions turn_shape turn_keys turn_meaning turn_planned c.args.values.now))
+
+pub serialize_shared_slice_turn-returns-in-Err-serialize_each_turn-clause-goes_on : goal.serialize_shared_slice_turn-returns-in-Err-serialize_each_turn-clause-goes_on
+serialize_shared_slice_turn-returns-in-Err-serialize_each_turn-clause-goes_on g t c = (goes_both _ _ _ c.begin_shared_slice.ensures.goes_on c.serialize_each_turn.ensures.goes_on)
+
+pub serialize_shared_slice_turn-returns-in-Err-serialize_each_turn-clause-refused : goal.serialize_shared_slice_turn-returns-in-Err-serialize_each_turn-clause-refused
+serialize_shared_slice_turn-returns-in-Err-serialize_each_turn-clause-refused g t c = (region_refused lane_definitions (run turn_shape) (length c.args.values.now) c.args.key (each_keys turn_keys c.args.values.now) (list (each_meaning turn_meaning c.args.values.now)) rc_flavor _ _ _ _ (rw c.in-None.is at c.in-Ok.ensures.begun) c.serialize_each_turn.ensures.goes_on (run_owned lane_definitions turn_shape (length c.args.values.now) (each_keys turn_keys c.args.values.now) (each_meaning turn_meaning c.args.values.now) _ _ _ c.in-Err-serialize_each_turn.ensures.refused))
+
+pub serialize_shared_slice_turn-returns-in-Err-finish_shared_slice-clause-goes_on : goal.serialize_shared_slice_turn-returns-in-Err-finish_shared_slice-clause-goes_on
+serialize_shared_slice_turn-returns-in-Err-finish_shared_slice-clause-goes_on g t c = (c.finish_shared_slice.ensures.goes_on.since _ _ (rw c.in-None.is at c.in-Ok.ensures.begun) c.serialize_each_turn.ensures.goes_on)
+
+pub serialize_shared_slice_turn-returns-in-Err-finish_shared_slice-clause-refused : goal.serialize_shared_slice_turn-returns-in-Err-finish_shared_slice-clause-refused
+serialize_shared_slice_turn-returns-in-Err-finish_shared_slice-clause-refused g t c = (c.in-Err-finish_shared_slice.ensures.refused.since rc_flavor _ _ (rw c.in-None.is at c.in-Ok.ensures.begun) c.serialize_each_turn.ensures.goes_on c.in-Ok-serialize_each_turn.ensures.serialized)
+
+pub serialize_shared_slice_turn-returns-in-Some-clause-serialized : goal.serialize_shared_slice_turn-returns-in-Some-clause-serialized
+serialize_shared_slice_turn-returns-in-Some-clause-serialized g t c = ((rw c.in-Some.is at c.in-Ok.ensures.known).said lane_definitions rc_flavor (run turn_shape) (length c.args.values.now) (each_keys turn_keys c.args.values.now) (list (each_meaning turn_meaning c.args.values.now)))
+
+pub serialize_shared_slice_turn-returns-in-Ok-finish_shared_slice-clause-serialized : goal.serialize_shared_slice_turn-returns-in-Ok-finish_shared_slice-clause-serialized
+serialize_shared_slice_turn-returns-in-Ok-finish_shared_slice-clause-serialized g t c = (c.in-Ok-finish_shared_slice.ensures.shared.since rc_flavor _ _ (rw c.in-None.is at c.in-Ok.ensures.begun) c.serialize_each_turn.ensures.goes_on c.in-Ok-serialize_each_turn.ensures.serialized)
+
+pub serialize_shared_slice_turn-returns-in-Ok-finish_shared_slice-clause-goes_on : goal.serialize_shared_slice_turn-returns-in-Ok-finish_shared_slice-clause-goes_on
+serialize_shared_slice_turn-returns-in-Ok-finish_shared_slice-clause-goes_on g t c = (c.finish_shared_slice.ensures.goes_on.since _ _ (rw c.in-None.is at c.in-Ok.ensures.begun) c.serialize_each_turn.ensures.goes_on)
+
+pub serialize_each_option_shared_lane-returns-in_err-resolvers-clause-refused : goal.serialize_each_option_shared_lane-returns-in_err-resolvers-clause-refused
+serialize_each_option_shared_lane-returns-in_err-resolvers-clause-refused g t c = err_by c.from_residual.result OutOfMemory _ c.from_residual.ensures.1 no_memory
+
+pub serialize_each_option_shared_lane-returns-in-Err-clause-goes_on : goal.serialize_each_option_shared_lane-returns-in-Err-clause-goes_on
+serialize_each_option_shared_lane-returns-in-Err-clause-goes_on g t c = goes_both _ _ _ c.loop-value.invariant.continues.goes c.serialize_keyed_lane.ensures.goes_on
+
+pub serialize_each_option_shared_lane-returns-in-Err-clause-refused : goal.serialize_each_option_shared_lane-returns-in-Err-clause-refused
+serialize_each_option_shared_lane-returns-in-Err-clause-refused g t c = continues_broken _ _ _ _ _ _ _ _ _ _ c.loop-value.value-index _ _ _ c.loop-value-test.true c.value-item.is (λ y. (option_planned lane_definitions (shared rc_flavor (one lane_shape)) (λ y. (rc_keys y.key (one lane_shape) 0 (lane_meaning y.value.value) (lane_keys y.value.value))) (λ y. (shared_value y.key)) (λ y. (rc_one_planned lane_definitions y.key (one lane_shape) lane_shape refl _ _ (lane_planned y.value.value))) y)) c.loop-value.invariant.continues c.serialize_keyed_lane.ensures.goes_on (let same : c.deref-inner.result.now ≡ c.in-Some.whole.value.value = grind (arith, common_steps) in rw (c.in-Some.is, ← same) (case_refused lane_definitions lane_definitions (λ s k. k) _ _ 1 (shared rc_flavor (one lane_shape)) refl _ _ _ _ _ c.in-Err.ensures.refused))
+
+pub serialize_keyed_lane-returns-in-Err-clause-refused : goal.serialize_keyed_lane-returns-in-Err-clause-refused
+serialize_keyed_lane-returns-in-Err-clause-refused g t c = (c.in-Err.ensures.refused.said lane_definitions rc_flavor (one lane_shape) 0 (lane_keys c.args.value.now) (lane_meaning c.args.value.now))
+
+pub serialize_keyed_lane-returns-in-Err-serialize_lane-clause-goes_on : goal.serialize_keyed_lane-returns-in-Err-serialize_lane-clause-goes_on
+serialize_keyed_lane-returns-in-Err-serialize_lane-clause-goes_on g t c = (goes_both _ _ _ c.begin_shared.ensures.goes_on c.serialize_lane.ensures.goes_on)
+
+pub serialize_keyed_lane-returns-in-Err-serialize_lane-clause-refused : goal.serialize_keyed_lane-returns-in-Err-serialize_lane-clause-refused
+serialize_keyed_lane-returns-in-Err-serialize_lane-clause-refused g t c = ((region_refused lane_definitions (one lane_shape) 0 c.args.key _ _ rc_flavor _ _ _ _ (rw c.in-None.is at c.in-Ok.ensures.begun) c.serialize_lane.ensures.goes_on (one_owned lane_definitions lane_shape _ _ _ _ _ c.in-Err-serialize_lane.ensures.refused)))
+
+pub serialize_keyed_lane-returns-in-Err-finish_shared-clause-goes_on : goal.serialize_keyed_lane-returns-in-Err-finish_shared-clause-goes_on
+serialize_keyed_lane-returns-in-Err-finish_shared-clause-goes_on g t c = (c.finish_shared.ensures.goes_on.since _ _ (rw c.in-None.is at c.in-Ok.ensures.begun) c.serialize_lane.ensures.goes_on)
+
+pub serialize_keyed_lane-returns-in-Err-finish_shared-clause-refused : goal.serialize_keyed_lane-returns-in-Err-finish_shared-clause-refused
+serialize_keyed_lane-returns-in-Err-finish_shared-clause-refused g t c = ((c.in-Err-finish_shared.ensures.refused.since rc_flavor _ _ (rw c.in-None.is at c.in-Ok.ensures.begun) c.serialize_lane.ensures.goes_on c.in-Ok-serialize_lane.ensures.serialized))
+
+pub serialize_keyed_lane-returns-in-Some-clause-serialized : goal.serialize_keyed_lane-returns-in-Some-clause-serialized
+serialize_keyed_lane-returns-in-Some-clause-serialized g t c = ((rw c.in-Some.is at c.in-Ok.ensures.known).said lane_definitions rc_flavor (one lane_shape) 0 (lane_keys c.args.value.now) (lane_meaning c.args.value.now))
+
+pub serialize_keyed_lane-returns-in-Ok-finish_shared-clause-serialized : goal.serialize_keyed_lane-returns-in-Ok-finish_shared-clause-serialized
+serialize_keyed_lane-returns-in-Ok-finish_shared-clause-serialized g t c = ((c.in-Ok-finish_shared.ensures.shared.since rc_flavor _ _ (rw c.in-None.is at c.in-Ok.ensures.begun) c.serialize_lane.ensures.goes_on c.in-Ok-serialize_lane.ensures.serialized))
+
+pub serialize_keyed_lane-returns-in-Ok-finish_shared-clause-goes_on : goal.serialize_keyed_lane-returns-in-Ok-finish_shared-clause-goes_on
+serialize_keyed_lane-returns-in-Ok-finish_shared-clause-goes_on g t c = (c.finish_shared.ensures.goes_on.since _ _ (rw c.in-None.is at c.in-Ok.ensures.begun) c.serialize_lane.ensures.goes_on)
+
+pub serialize_each_option_shared_lane-returns-in_err-resolvers-clause-goes_on : goal.serialize_each_option_shared_lane-returns-in_err-resolvers-clause-goes_on
+serialize_each_option_shared_lane-returns-in_err-resolvers-clause-goes_on g t c = goes_nowhere _
+
+pub serialize_each_option_shared_lane-returns-in_err-map_err-in-None-clause-refused : goal.serialize_each_option_shared_lane-returns-in_err-map_err-in-None-clause-refused
+serialize_each_option_shared_lane-returns-in_err-map_err-in-None-clause-refused g t c = err_by c.from_residual-in_err-map_err-in-None.result OutOfMemory _ c.from_residual-in_err-map_err-in-None.ensures.1 no_memory
+
+pub serialize_each_option_shared_lane-returns-in_err-map_err-in-Some-clause-goes_on : goal.serialize_each_option_shared_lane-returns-in_err-map_err-in-Some-clause-goes_on
+serialize_each_option_shared_lane-returns-in_err-map_err-in-Some-clause-goes_on g t c = goes_both _ _ _ c.loop-value.invariant.continues.goes c.serialize_keyed_lane.ensures.goes_on
+
+pub serialize_each_option_shared_lane-returns-in_err-map_err-in-Some-clause-refused : goal.serialize_each_option_shared_lane-returns-in_err-map_err-in-Some-clause-refused
+serialize_each_option_shared_lane-returns-in_err-map_err-in-Some-clause-refused g t c = err_by c.from_residual-in_err-map_err-in-Some.result OutOfMemory _ c.from_residual-in_err-map_err-in-Some.ensures.1 no_memory
+
+pub serialize_each_option_shared_lane-loop-value-preserved : goal.serialize_each_option_shared_lane-loop-value-preserved
+serialize_each_option_shared_lane-loop-value-preserved g t c = record { continues = elim c.match-value.branch [ serialize_each_option_shared_lane-in-None+in_ok-map_err-in-None w ↦ rw (w.serializer-is, w.resolvers-is) (continues_step _ _ _ _ _ _ _ _ _ _ c.loop-value.value-index _ _ _ None c.loop-value-test.true c.value-item.is (grind (arith, common_steps, w.push.ensures.items, w.map_err.ensures.variant, w.branch-map_err.ensures, w.in_ok-map_err-in-None.is)) c.loop-value.invariant.continues (rw w.in-None.is (serialized_empty_case lane_definitions _ _ 0 refl _)) (rw w.in-None.is tt) (goes_nowhere _)) | serialize_each_option_shared_lane-in-Some+in-Ok+in_ok-map_err-in-Some w ↦ rw (w.serializer-is, w.resolvers-is) (continues_step _ _ _ _ _ _ _ _ _ _ c.loop-value.value-index _ _ _ (Some w.in-Ok.resolver) c.loop-value-test.true c.value-item.is (grind (arith, common_steps, w.push-in-Some.ensures.items, w.map_err-in-Some.ensures.variant, w.branch-map_err-in-Some.ensures, w.in_ok-map_err-in-Some.is)) c.loop-value.invariant.continues (let same : w.deref-inner.result.now ≡ w.in-Some.whole.value.value = grind (arith, common_steps) in rw (w.in-Some.is, ← same) (serialized_case lane_definitions lane_definitions (λ s k. k) _ _ 1 (shared rc_flavor (one lane_shape)) refl _ _ _ _ _ w.in-Ok.ensures.serialized)) (rw w.in-Some.is tt) w.serialize_keyed_lane.ensures.goes_on) ] }
+
+pub serialize_each_option_shared_lane-returns-clause-serialized : goal.serialize_each_option_shared_lane-returns-clause-serialized
+serialize_each_option_shared_lane-returns-clause-serialized g t c = continues_end _ _ _ _ _ _ _ _ _ _ _ (drop_of_length-le _ c.loop-value-test.false) c.loop-value.invariant.continues
+
+pub serialize_each_option_shared_lane-returns-clause-same_values : goal.serialize_each_option_shared_lane-returns-clause-same_values
+serialize_each_option_shared_lane-returns-clause-same_values g t c = belongs_end _ _ _ _ _ _ _ _ _ _ _ (drop_of_length-le _ c.loop-value-test.false) c.loop-value.invariant.continues
+
+pub serialize_vec_option_shared_lane-returns-then-len-clause-refused : goal.serialize_vec_option_shared_lane-returns-then-len-clause-refused
+serialize_vec_option_shared_lane-returns-then-len-clause-refused g t c = (let long : 4294967295 < length c.args.value.now.items = (let whole : length c.args.value.now.items ≡ c.len.result = grind (arith, common_steps, c.len.ensures) in omega (arith, c.if-len.true, whole)) in vec_refused lane_definitions (option_shape (shared rc_flavor (one lane_shape))) (length c.args.value.now.items) (each_keys (λ y. (option_keys (λ y. (rc_keys y.key (one lane_shape) 0 (lane_meaning y.value.value) (lane_keys y.value.value))) y)) c.args.value.now.items) (list (each_meaning (λ y. (option_meaning (λ y. (shared_value y.key)) y)) c.args.value.now.items)) _ _ _ (long_run_refused lane_definitions (option_shape (shared rc_flavor (one lane_shape))) (length c.args.value.now.items) (each_keys (λ y. (option_keys (λ y. (rc_keys y.key (one lane_shape) 0 (lane_meaning y.value.value) (lane_keys y.value.value))) y)) c.args.value.now.items) (each_meaning (λ y. (option_meaning (λ y. (shared_value y.key)) y)) c.args.value.now.items) _ _ (each_planned lane_definitions (option_shape (shared rc_flavor (one lane_shape))) (λ y. (option_keys (λ y. (rc_keys y.key (one lane_shape) 0 (lane_meaning y.value.value) (lane_keys y.value.value))) y)) (λ y. (option_meaning (λ y. (shared_value y.key)) y)) (λ y. (option_planned lane_definitions (shared rc_flavor (one lane_shape)) (λ y. (rc_keys y.key (one lane_shape) 0 (lane_meaning y.value.value) (lane_keys y.value.value))) (λ y. (shared_value y.key)) (λ y. (rc_one_planned lane_definitions y.key (one lane_shape) lane_shape refl _ _ (lane_planned y.value.value))) y)) c.args.value.now.items) long))
+
+pub serialize_vec_option_shared_lane-returns-in-Err-clause-refused : goal.serialize_vec_option_shared_lane-returns-in-Err-clause-refused
+serialize_vec_option_shared_lane-returns-in-Err-clause-refused g t c = vec_refused lane_definitions (option_shape (shared rc_flavor (one lane_shape))) (length c.args.value.now.items) (each_keys (λ y. (option_keys (λ y. (rc_keys y.key (one lane_shape) 0 (lane_meaning y.value.value) (lane_keys y.value.value))) y)) c.args.value.now.items) (list (each_meaning (λ y. (option_meaning (λ y. (shared_value y.key)) y)) c.args.value.now.items)) _ _ _ (run_owned lane_definitions (option_shape (shared rc_flavor (one lane_shape))) (length c.args.value.now.items) (each_keys (λ y. (option_keys (λ y. (rc_keys y.key (one lane_shape) 0 (lane_meaning y.value.value) (lane_keys y.value.value))) y)) c.args.value.now.items) (each_meaning (λ y. (option_meaning (λ y. (shared_value y.key)) y)) c.args.value.now.items) _ _ _ (rw c.as_slice-items.ensures.value at c.in-Err.ensures.refused))
+
+pub serialize_vec_option_shared_lane-returns-in-Ok-serialize_run-clause-serialized : goal.serialize_vec_option_shared_lane-returns-in-Ok-serialize_run-clause-serialized
+serialize_vec_option_shared_lane-returns-in-Ok-serialize_run-clause-serialized g t c = (rw c.as_slice-items.ensures.value at c.in-Ok-serialize_run.ensures.listed).since _ c.serialize_each_option_shared_lane.ensures.goes_on (rw c.as_slice-items.ensures.value at c.in-Ok.ensures.serialized)
+
+pub serialize_vec_option_shared_lane-returns-in-Ok-serialize_run-clause-goes_on : goal.serialize_vec_option_shared_lane-returns-in-Ok-serialize_run-clause-goes_on
+serialize_vec_option_shared_lane-returns-in-Ok-serialize_run-clause-goes_on g t c = (goes_both _ _ _ c.serialize_each_option_shared_lane.ensures.goes_on c.serialize_run.ensures.goes_on)
+
+pub serialize_vec_option_shared_lane-returns-in-Err-serialize_run-clause-goes_on : goal.serialize_vec_option_shared_lane-returns-in-Err-serialize_run-clause-goes_on
+serialize_vec_option_shared_lane-returns-in-Err-serialize_run-clause-goes_on g t c = (goes_both _ _ _ c.serialize_each_option_shared_lane.ensures.goes_on c.serialize_run.ensures.goes_on)
+
+pub serialize_vec_option_shared_lane-returns-in-Err-serialize_run-clause-refused : goal.serialize_vec_option_shared_lane-returns-in-Err-serialize_run-clause-refused
+serialize_vec_option_shared_lane-returns-in-Err-serialize_run-clause-refused g t c = (rw c.as_slice-items.ensures.value at c.in-Err-serialize_run.ensures.refused).since _ c.serialize_each_option_shared_lane.ensures.goes_on (rw c.as_slice-items.ensures.value at c.in-Ok.ensures.serialized)
+
+pub serialize_whole_lane-returns-in-Err-clause-refused : goal.serialize_whole_lane-returns-in-Err-clause-refused
+serialize_whole_lane-returns-in-Err-clause-refused g t c = (refused_as (lane_has_keys c.args.value.now) (lane_means c.args.value.now) (record_refused lane_definitions lane_shape lane_part_definitions lane_parts lane_has_parts _ _ _ _ _ (first_refused no_definition (both lane_definitions (both lane_definitions (both lane_definitions no_definition))) (leaf (number_kind unsigned w8)) (part (weak rc_flavor (one turn_shape)) (part (shared rc_flavor (run turn_shape)) (part (vec (option_shape (shared rc_flavor (one lane_shape)))) no_part))) [] ((option_keys (λ s. (rc_keys s.key (one turn_shape) 0 (turn_meaning s.value.value) (turn_keys s.value.value))) (out-Lane c.args.value.now).way.value) ++ ((rc_keys (out-Lane c.args.value.now).turns.key (run turn_shape) (length (out-Lane c.args.value.now).turns.value.items.value.items) (list (each_meaning turn_meaning (out-Lane c.args.value.now).turns.value.items.value.items)) (each_keys turn_keys (out-Lane c.args.value.now).turns.value.items.value.items)) ++ ((each_keys (λ y. (option_keys (λ y. (rc_keys y.key (one lane_shape) 0 (lane_meaning y.value.value) (lane_keys y.value.value))) y)) (out-Lane c.args.value.now).others.items) ++ []))) (number (pos (out-Lane c.args.value.now).id)) (value (weak_value (λ s. (shared_value s.key)) (out-Lane c.args.value.now).way.value) (value (shared_value (out-Lane c.args.value.now).turns.key) (value (list (each_meaning (λ y. (option_meaning (λ y. (shared_value y.key)) y)) (out-Lane c.args.value.now).others.items)) no_value))) _ _ _ (part_planned lane_definitions (weak rc_flavor (one turn_shape)) (option_keys (λ s. (rc_keys s.key (one turn_shape) 0 (turn_meaning s.value.value) (turn_keys s.value.value))) (out-Lane c.args.value.now).way.value) (weak_value (λ s. (shared_value s.key)) (out-Lane c.args.value.now).way.value) (weak_planned lane_definitions rc_flavor (one turn_shape) (λ s. (rc_keys s.key (one turn_shape) 0 (turn_meaning s.value.value) (turn_keys s.value.value))) (λ s. (shared_value s.key)) (λ s. (rc_one_planned lane_definitions s.key (one turn_shape) turn_shape refl _ _ (turn_planned s.value.value))) (out-Lane c.args.value.now).way.value) (part_planned lane_definitions (shared rc_flavor (run turn_shape)) (rc_keys (out-Lane c.args.value.now).turns.key (run turn_shape) (length (out-Lane c.args.value.now).turns.value.items.value.items) (list (each_meaning turn_meaning (out-Lane c.args.value.now).turns.value.items.value.items)) (each_keys turn_keys (out-Lane c.args.value.now).turns.value.items.value.items)) (shared_value (out-Lane c.args.value.now).turns.key) (rc_planned lane_definitions (out-Lane c.args.value.now).turns.key (run turn_shape) _ _ _ (slice_planned lane_definitions turn_shape turn_keys turn_meaning turn_planned (out-Lane c.args.value.now).turns.value.items.value.items)) (part_planned lane_definitions (vec (option_shape (shared rc_flavor (one lane_shape)))) (each_keys (λ y. (option_keys (λ y. (rc_keys y.key (one lane_shape) 0 (lane_meaning y.value.value) (lane_keys y.value.value))) y)) (out-Lane c.args.value.now).others.items) (list (each_meaning (λ y. (option_meaning (λ y. (shared_value y.key)) y)) (out-Lane c.args.value.now).others.items)) (vec_planned lane_definitions (option_shape (shared rc_flavor (one lane_shape))) _ _ _ (slice_planned lane_definitions (option_shape (shared rc_flavor (one lane_shape))) (λ y. (option_keys (λ y. (rc_keys y.key (one lane_shape) 0 (lane_meaning y.value.value) (lane_keys y.value.value))) y)) (λ y. (option_meaning (λ y. (shared_value y.key)) y)) (λ y. (option_planned lane_definitions (shared rc_flavor (one lane_shape)) (λ y. (rc_keys y.key (one lane_shape) 0 (lane_meaning y.value.value) (lane_keys y.value.value))) (λ y. (shared_value y.key)) (λ y. (rc_one_planned lane_definitions y.key (one lane_shape) lane_shape refl _ _ (lane_planned y.value.value))) y)) (out-Lane c.args.value.now).others.items)) no_part_planned))) c.in-Err.ensures.refused)))
+
+pub serialize_whole_lane-returns-in-Err-serialize_weak_shared_turn-clause-refused : goal.serialize_whole_lane-returns-in-Err-serialize_weak_shared_turn-clause-refused
+serialize_whole_lane-returns-in-Err-serialize_weak_shared_turn-clause-refused g t c = rw c.handed_on.ensures (refused_as (lane_has_keys c.args.value.now) (lane_means c.args.value.now) (record_refused lane_definitions lane_shape lane_part_definitions lane_parts lane_has_parts _ _ _ _ _ (later_refused no_definition (both lane_definitions (both lane_definitions (both lane_definitions no_definition))) (leaf (number_kind unsigned w8)) (part (weak rc_flavor (one turn_shape)) (part (shared rc_flavor (run turn_shape)) (part (vec (option_shape (shared rc_flavor (one lane_shape)))) no_part))) [] ((option_keys (λ s. (rc_keys s.key (one turn_shape) 0 (turn_meaning s.value.value) (turn_keys s.value.value))) (out-Lane c.args.value.now).way.value) ++ ((rc_keys (out-Lane c.args.value.now).turns.key (run turn_shape) (length (out-Lane c.args.value.now).turns.value.items.value.items) (list (each_meaning turn_meaning (out-Lane c.args.value.now).turns.value.items.value.items)) (each_keys turn_keys (out-Lane c.args.value.now).turns.value.items.value.items)) ++ ((each_keys (λ y. (option_keys (λ y. (rc_keys y.key (one lane_shape) 0 (lane_meaning y.value.value) (lane_keys y.value.value))) y)) (out-Lane c.args.value.now).others.items) ++ []))) (number (pos (out-Lane c.args.value.now).id)) (value (weak_value (λ s. (shared_value s.key)) (out-Lane c.args.value.now).way.value) (value (shared_value (out-Lane c.args.value.now).turns.key) (value (list (each_meaning (λ y. (option_meaning (λ y. (shared_value y.key)) y)) (out-Lane c.args.value.now).others.items)) no_value))) _ _ _ _ _ c.in-Ok.ensures.serialized c.serialize_part.ensures.goes_on c.serialize_weak_shared_turn.ensures.goes_on (first_refused lane_definitions (both lane_definitions (both lane_definitions no_definition)) (weak rc_flavor (one turn_shape)) (part (shared rc_flavor (run turn_shape)) (part (vec (option_shape (shared rc_flavor (one lane_shape)))) no_part)) (option_keys (λ s. (rc_keys s.key (one turn_shape) 0 (turn_meaning s.value.value) (turn_keys s.value.value))) (out-Lane c.args.value.now).way.value) ((rc_keys (out-Lane c.args.value.now).turns.key (run turn_shape) (length (out-Lane c.args.value.now).turns.value.items.value.items) (list (each_meaning turn_meaning (out-Lane c.args.value.now).turns.value.items.value.items)) (each_keys turn_keys (out-Lane c.args.value.now).turns.value.items.value.items)) ++ ((each_keys (λ y. (option_keys (λ y. (rc_keys y.key (one lane_shape) 0 (lane_meaning y.value.value) (lane_keys y.value.value))) y)) (out-Lane c.args.value.now).others.items) ++ [])) (weak_value (λ s. (shared_value s.key)) (out-Lane c.args.value.now).way.value) (value (shared_value (out-Lane c.args.value.now).turns.key) (value (list (each_meaning (λ y. (option_meaning (λ y. (shared_value y.key)) y)) (out-Lane c.args.value.now).others.items)) no_value)) _ _ _ (part_planned lane_definitions (shared rc_flavor (run turn_shape)) (rc_keys (out-Lane c.args.value.now).turns.key (run turn_shape) (length (out-Lane c.args.value.now).turns.value.items.value.items) (list (each_meaning turn_meaning (out-Lane c.args.value.now).turns.value.items.value.items)) (each_keys turn_keys (out-Lane c.args.value.now).turns.value.items.value.items)) (shared_value (out-Lane c.args.value.now).turns.key) (rc_planned lane_definitions (out-Lane c.args.value.now).turns.key (run turn_shape) _ _ _ (slice_planned lane_definitions turn_shape turn_keys turn_meaning turn_planned (out-Lane c.args.value.now).turns.value.items.value.items)) (part_planned lane_definitions (vec (option_shape (shared rc_flavor (one lane_shape)))) (each_keys (λ y. (option_keys (λ y. (rc_keys y.key (one lane_shape) 0 (lane_meaning y.value.value) (lane_keys y.value.value))) y)) (out-Lane c.args.value.now).others.items) (list (each_meaning (λ y. (option_meaning (λ y. (shared_value y.key)) y)) (out-Lane c.args.value.now).others.items)) (vec_planned lane_definitions (option_shape (shared rc_flavor (one lane_shape))) _ _ _ (slice_planned lane_definitions (option_shape (shared rc_flavor (one lane_shape))) (λ y. (option_keys (λ y. (rc_keys y.key (one lane_shape) 0 (lane_meaning y.value.value) (lane_keys y.value.value))) y)) (λ y. (option_meaning (λ y. (shared_value y.key)) y)) (λ y. (option_planned lane_definitions (shared rc_flavor (one lane_shape)) (λ y. (rc_keys y.key (one lane_shape) 0 (lane_meaning y.value.value) (lane_keys y.value.value))) (λ y. (shared_value y.key)) (λ y. (rc_one_planned lane_definitions y.key (one lane_shape) lane_shape refl _ _ (lane_planned y.value.value))) y)) (out-Lane c.args.value.now).others.items)) no_part_planned)) c.in-Err-serialize_weak_shared_turn.ensures.refused))))
+
+pub serialize_whole_lane-returns-in-Err-serialize_weak_shared_turn-clause-goes_on : goal.serialize_whole_lane-returns-in-Err-serialize_weak_shared_turn-clause-goes_on
+serialize_whole_lane-returns-in-Err-serialize_weak_shared_turn-clause-goes_on g t c = (goes_both _ _ _ c.serialize_part.ensures.goes_on c.serialize_weak_shared_turn.ensures.goes_on)
+
+pub serialize_whole_lane-returns-in-Err-serialize_shared_slice_turn-clause-refused : goal.serialize_whole_lane-returns-in-Err-serialize_shared_slice_turn-clause-refused
+serialize_whole_lane-returns-in-Err-serialize_shared_slice_turn-clause-refused g t c = (refused_as (lane_has_keys c.args.value.now) (lane_means c.args.value.now) (record_refused lane_definitions lane_shape lane_part_definitions lane_parts lane_has_parts _ _ _ _ _ (later_refused no_definition (both lane_definitions (both lane_definitions (both lane_definitions no_definition))) (leaf (number_kind unsigned w8)) (part (weak rc_flavor (one turn_shape)) (part (shared rc_flavor (run turn_shape)) (part (vec (option_shape (shared rc_flavor (one lane_shape)))) no_part))) [] ((option_keys (λ s. (rc_keys s.key (one turn_shape) 0 (turn_meaning s.value.value) (turn_keys s.value.value))) (out-Lane c.args.value.now).way.value) ++ ((rc_keys (out-Lane c.args.value.now).turns.key (run turn_shape) (length (out-Lane c.args.value.now).turns.value.items.value.items) (list (each_meaning turn_meaning (out-Lane c.args.value.now).turns.value.items.value.items)) (each_keys turn_keys (out-Lane c.args.value.now).turns.value.items.value.items)) ++ ((each_keys (λ y. (option_keys (λ y. (rc_keys y.key (one lane_shape) 0 (lane_meaning y.value.value) (lane_keys y.value.value))) y)) (out-Lane c.args.value.now).others.items) ++ []))) (number (pos (out-Lane c.args.value.now).id)) (value (weak_value (λ s. (shared_value s.key)) (out-Lane c.args.value.now).way.value) (value (shared_value (out-Lane c.args.value.now).turns.key) (value (list (each_meaning (λ y. (option_meaning (λ y. (shared_value y.key)) y)) (out-Lane c.args.value.now).others.items)) no_value))) _ _ _ _ _ c.in-Ok.ensures.serialized c.serialize_part.ensures.goes_on (goes_both _ _ _ c.serialize_weak_shared_turn.ensures.goes_on c.serialize_shared_slice_turn.ensures.goes_on) (later_refused lane_definitions (both lane_definitions (both lane_definitions no_definition)) (weak rc_flavor (one turn_shape)) (part (shared rc_flavor (run turn_shape)) (part (vec (option_shape (shared rc_flavor (one lane_shape)))) no_part)) (option_keys (λ s. (rc_keys s.key (one turn_shape) 0 (turn_meaning s.value.value) (turn_keys s.value.value))) (out-Lane c.args.value.now).way.value) ((rc_keys (out-Lane c.args.value.now).turns.key (run turn_shape) (length (out-Lane c.args.value.now).turns.value.items.value.items) (list (each_meaning turn_meaning (out-Lane c.args.value.now).turns.value.items.value.items)) (each_keys turn_keys (out-Lane c.args.value.now).turns.value.items.value.items)) ++ ((each_keys (λ y. (option_keys (λ y. (rc_keys y.key (one lane_shape) 0 (lane_meaning y.value.value) (lane_keys y.value.value))) y)) (out-Lane c.args.value.now).others.items) ++ [])) (weak_value (λ s. (shared_value s.key)) (out-Lane c.args.value.now).way.value) (value (shared_value (out-Lane c.args.value.now).turns.key) (value (list (each_meaning (λ y. (option_meaning (λ y. (shared_value y.key)) y)) (out-Lane c.args.value.now).others.items)) no_value)) _ _ _ _ _ c.in-Ok-serialize_weak_shared_turn.ensures.serialized c.serialize_weak_shared_turn.ensures.goes_on c.serialize_shared_slice_turn.ensures.goes_on (first_refused lane_definitions (both lane_definitions no_definition) (shared rc_flavor (run turn_shape)) (part (vec (option_shape (shared rc_flavor (one lane_shape)))) no_part) (rc_keys (out-Lane c.args.value.now).turns.key (run turn_shape) (length (out-Lane c.args.value.now).turns.value.items.value.items) (list (each_meaning turn_meaning (out-Lane c.args.value.now).turns.value.items.value.items)) (each_keys turn_keys (out-Lane c.args.value.now).turns.value.items.value.items)) ((each_keys (λ y. (option_keys (λ y. (rc_keys y.key (one lane_shape) 0 (lane_meaning y.value.value) (lane_keys y.value.value))) y)) (out-Lane c.args.value.now).others.items) ++ []) (shared_value (out-Lane c.args.value.now).turns.key) (value (list (each_meaning (λ y. (option_meaning (λ y. (shared_value y.key)) y)) (out-Lane c.args.value.now).others.items)) no_value) _ _ _ (part_planned lane_definitions (vec (option_shape (shared rc_flavor (one lane_shape)))) (each_keys (λ y. (option_keys (λ y. (rc_keys y.key (one lane_shape) 0 (lane_meaning y.value.value) (lane_keys y.value.value))) y)) (out-Lane c.args.value.now).others.items) (list (each_meaning (λ y. (option_meaning (λ y. (shared_value y.key)) y)) (out-Lane c.args.value.now).others.items)) (vec_planned lane_definitions (option_shape (shared rc_flavor (one lane_shape))) _ _ _ (slice_planned lane_definitions (option_shape (shared rc_flavor (one lane_shape))) (λ y. (option_keys (λ y. (rc_keys y.key (one lane_shape) 0 (lane_meaning y.value.value) (lane_keys y.value.value))) y)) (λ y. (option_meaning (λ y. (shared_value y.key)) y)) (λ y. (option_planned lane_definitions (shared rc_flavor (one lane_shape)) (λ y. (rc_keys y.key (one lane_shape) 0 (lane_meaning y.value.value) (lane_keys y.value.value))) (λ y. (shared_value y.key)) (λ y. (rc_one_planned lane_definitions y.key (one lane_shape) lane_shape refl _ _ (lane_planned y.value.value))) y)) (out-Lane c.args.value.now).others.items)) no_part_planned) (rw c.as_slice-items.ensures.value at c.in-Err-serialize_shared_slice_turn.ensures.refused))))))
+
+pub serialize_whole_lane-returns-in-Err-serialize_shared_slice_turn-clause-goes_on : goal.serialize_whole_lane-returns-in-Err-serialize_shared_slice_turn-clause-goes_on
+serialize_whole_lane-returns-in-Err-serialize_shared_slice_turn-clause-goes_on g t c = (goes_both _ _ _ (goes_both _ _ _ c.serialize_part.ensures.goes_on c.serialize_weak_shared_turn.ensures.goes_on) c.serialize_shared_slice_turn.ensures.goes_on)
+
+pub serialize_whole_lane-returns-in-Err-serialize_vec_option_shared_lane-clause-refused : goal.serialize_whole_lane-returns-in-Err-serialize_vec_option_shared_lane-clause-refused
+serialize_whole_lane-returns-in-Err-serialize_vec_option_shared_lane-clause-refused g t c = (refused_as (lane_has_keys c.args.value.now) (lane_means c.args.value.now) (record_refused lane_definitions lane_shape lane_part_definitions lane_parts lane_has_parts _ _ _ _ _ (later_refused no_definition (both lane_definitions (both lane_definitions (both lane_definitions no_definition))) (leaf (number_kind unsigned w8)) (part (weak rc_flavor (one turn_shape)) (part (shared rc_flavor (run turn_shape)) (part (vec (option_shape (shared rc_flavor (one lane_shape)))) no_part))) [] ((option_keys (λ s. (rc_keys s.key (one turn_shape) 0 (turn_meaning s.value.value) (turn_keys s.value.value))) (out-Lane c.args.value.now).way.value) ++ ((rc_keys (out-Lane c.args.value.now).turns.key (run turn_shape) (length (out-Lane c.args.value.now).turns.value.items.value.items) (list (each_meaning turn_meaning (out-Lane c.args.value.now).turns.value.items.value.items)) (each_keys turn_keys (out-Lane c.args.value.now).turns.value.items.value.items)) ++ ((each_keys (λ y. (option_keys (λ y. (rc_keys y.key (one lane_shape) 0 (lane_meaning y.value.value) (lane_keys y.value.value))) y)) (out-Lane c.args.value.now).others.items) ++ []))) (number (pos (out-Lane c.args.value.now).id)) (value (weak_value (λ s. (shared_value s.key)) (out-Lane c.args.value.now).way.value) (value (shared_value (out-Lane c.args.value.now).turns.key) (value (list (each_meaning (λ y. (option_meaning (λ y. (shared_value y.key)) y)) (out-Lane c.args.value.now).others.items)) no_value))) _ _ _ _ _ c.in-Ok.ensures.serialized c.serialize_part.ensures.goes_on (goes_both _ _ _ (goes_both _ _ _ c.serialize_weak_shared_turn.ensures.goes_on c.serialize_shared_slice_turn.ensures.goes_on) c.serialize_vec_option_shared_lane.ensures.goes_on) (later_refused lane_definitions (both lane_definitions (both lane_definitions no_definition)) (weak rc_flavor (one turn_shape)) (part (shared rc_flavor (run turn_shape)) (part (vec (option_shape (shared rc_flavor (one lane_shape)))) no_part)) (option_keys (λ s. (rc_keys s.key (one turn_shape) 0 (turn_meaning s.value.value) (turn_keys s.value.value))) (out-Lane c.args.value.now).way.value) ((rc_keys (out-Lane c.args.value.now).turns.key (run turn_shape) (length (out-Lane c.args.value.now).turns.value.items.value.items) (list (each_meaning turn_meaning (out-Lane c.args.value.now).turns.value.items.value.items)) (each_keys turn_keys (out-Lane c.args.value.now).turns.value.items.value.items)) ++ ((each_keys (λ y. (option_keys (λ y. (rc_keys y.key (one lane_shape) 0 (lane_meaning y.value.value) (lane_keys y.value.value))) y)) (out-Lane c.args.value.now).others.items) ++ [])) (weak_value (λ s. (shared_value s.key)) (out-Lane c.args.value.now).way.value) (value (shared_value (out-Lane c.args.value.now).turns.key) (value (list (each_meaning (λ y. (option_meaning (λ y. (shared_value y.key)) y)) (out-Lane c.args.value.now).others.items)) no_value)) _ _ _ _ _ c.in-Ok-serialize_weak_shared_turn.ensures.serialized c.serialize_weak_shared_turn.ensures.goes_on (goes_both _ _ _ c.serialize_shared_slice_turn.ensures.goes_on c.serialize_vec_option_shared_lane.ensures.goes_on) (later_refused lane_definitions (both lane_definitions no_definition) (shared rc_flavor (run turn_shape)) (part (vec (option_shape (shared rc_flavor (one lane_shape)))) no_part) (rc_keys (out-Lane c.args.value.now).turns.key (run turn_shape) (length (out-Lane c.args.value.now).turns.value.items.value.items) (list (each_meaning turn_meaning (out-Lane c.args.value.now).turns.value.items.value.items)) (each_keys turn_keys (out-Lane c.args.value.now).turns.value.items.value.items)) ((each_keys (λ y. (option_keys (λ y. (rc_keys y.key (one lane_shape) 0 (lane_meaning y.value.value) (lane_keys y.value.value))) y)) (out-Lane c.args.value.now).others.items) ++ []) (shared_value (out-Lane c.args.value.now).turns.key) (value (list (each_meaning (λ y. (option_meaning (λ y. (shared_value y.key)) y)) (out-Lane c.args.value.now).others.items)) no_value) _ _ _ _ _ (rw c.as_slice-items.ensures.value at c.in-Ok-serialize_shared_slice_turn.ensures.serialized) c.serialize_shared_slice_turn.ensures.goes_on c.serialize_vec_option_shared_lane.ensures.goes_on (first_refused lane_definitions no_definition (vec (option_shape (shared rc_flavor (one lane_shape)))) no_part (each_keys (λ y. (option_keys (λ y. (rc_keys y.key (one lane_shape) 0 (lane_meaning y.value.value) (lane_keys y.value.value))) y)) (out-Lane c.args.value.now).others.items) [] (list (each_meaning (λ y. (option_meaning (λ y. (shared_value y.key)) y)) (out-Lane c.args.value.now).others.items)) no_value _ _ _ no_part_planned c.in-Err-serialize_vec_option_shared_lane.ensures.refused))))))
+
+pub serialize_whole_lane-returns-in-Err-serialize_vec_option_shared_lane-clause-goes_on : goal.serialize_whole_lane-returns-in-Err-serialize_vec_option_shared_lane-clause-goes_on
+serialize_whole_lane-returns-in-Err-serialize_vec_option_shared_lane-clause-goes_on g t c = (goes_both _ _ _ (goes_both _ _ _ (goes_both _ _ _ c.serialize_part.ensures.goes_on c.serialize_weak_shared_turn.ensures.goes_on) c.serialize_shared_slice_turn.ensures.goes_on) c.serialize_vec_option_shared_lane.ensures.goes_on)
+
+pub serialize_whole_lane-returns-clause-serialized : goal.serialize_whole_lane-returns-clause-serialized
+serialize_whole_lane-returns-clause-serialized g t c = (written_as (lane_has_keys c.args.value.now) (lane_means c.args.value.now) refl (serialized_record lane_definitions lane_shape lane_part_definitions lane_parts lane_has_parts _ _ _ _ _ (serialized_part no_definition (both lane_definitions (both lane_definitions (both lane_definitions no_definition))) (leaf (number_kind unsigned w8)) (part (weak rc_flavor (one turn_shape)) (part (shared rc_flavor (run turn_shape)) (part (vec (option_shape (shared rc_flavor (one lane_shape)))) no_part))) [] ((option_keys (λ s. (rc_keys s.key (one turn_shape) 0 (turn_meaning s.value.value) (turn_keys s.value.value))) (out-Lane c.args.value.now).way.value) ++ ((rc_keys (out-Lane c.args.value.now).turns.key (run turn_shape) (length (out-Lane c.args.value.now).turns.value.items.value.items) (list (each_meaning turn_meaning (out-Lane c.args.value.now).turns.value.items.value.items)) (each_keys turn_keys (out-Lane c.args.value.now).turns.value.items.value.items)) ++ ((each_keys (λ y. (option_keys (λ y. (rc_keys y.key (one lane_shape) 0 (lane_meaning y.value.value) (lane_keys y.value.value))) y)) (out-Lane c.args.value.now).others.items) ++ []))) (number (pos (out-Lane c.args.value.now).id)) (value (weak_value (λ s. (shared_value s.key)) (out-Lane c.args.value.now).way.value) (value (shared_value (out-Lane c.args.value.now).turns.key) (value (list (each_meaning (λ y. (option_meaning (λ y. (shared_value y.key)) y)) (out-Lane c.args.value.now).others.items)) no_value))) _ _ _ _ _ c.in-Ok.ensures.serialized (serialized_part lane_definitions (both lane_definitions (both lane_definitions no_definition)) (weak rc_flavor (one turn_shape)) (part (shared rc_flavor (run turn_shape)) (part (vec (option_shape (shared rc_flavor (one lane_shape)))) no_part)) (option_keys (λ s. (rc_keys s.key (one turn_shape) 0 (turn_meaning s.value.value) (turn_keys s.value.value))) (out-Lane c.args.value.now).way.value) ((rc_keys (out-Lane c.args.value.now).turns.key (run turn_shape) (length (out-Lane c.args.value.now).turns.value.items.value.items) (list (each_meaning turn_meaning (out-Lane c.args.value.now).turns.value.items.value.items)) (each_keys turn_keys (out-Lane c.args.value.now).turns.value.items.value.items)) ++ ((each_keys (λ y. (option_keys (λ y. (rc_keys y.key (one lane_shape) 0 (lane_meaning y.value.value) (lane_keys y.value.value))) y)) (out-Lane c.args.value.now).others.items) ++ [])) (weak_value (λ s. (shared_value s.key)) (out-Lane c.args.value.now).way.value) (value (shared_value (out-Lane c.args.value.now).turns.key) (value (list (each_meaning (λ y. (option_meaning (λ y. (shared_value y.key)) y)) (out-Lane c.args.value.now).others.items)) no_value)) _ _ _ _ _ c.in-Ok-serialize_weak_shared_turn.ensures.serialized (serialized_part lane_definitions (both lane_definitions no_definition) (shared rc_flavor (run turn_shape)) (part (vec (option_shape (shared rc_flavor (one lane_shape)))) no_part) (rc_keys (out-Lane c.args.value.now).turns.key (run turn_shape) (length (out-Lane c.args.value.now).turns.value.items.value.items) (list (each_meaning turn_meaning (out-Lane c.args.value.now).turns.value.items.value.items)) (each_keys turn_keys (out-Lane c.args.value.now).turns.value.items.value.items)) ((each_keys (λ y. (option_keys (λ y. (rc_keys y.key (one lane_shape) 0 (lane_meaning y.value.value) (lane_keys y.value.value))) y)) (out-Lane c.args.value.now).others.items) ++ []) (shared_value (out-Lane c.args.value.now).turns.key) (value (list (each_meaning (λ y. (option_meaning (λ y. (shared_value y.key)) y)) (out-Lane c.args.value.now).others.items)) no_value) _ _ _ _ _ (rw c.as_slice-items.ensures.value at c.in-Ok-serialize_shared_slice_turn.ensures.serialized) (serialized_part lane_definitions no_definition (vec (option_shape (shared rc_flavor (one lane_shape)))) no_part (each_keys (λ y. (option_keys (λ y. (rc_keys y.key (one lane_shape) 0 (lane_meaning y.value.value) (lane_keys y.value.value))) y)) (out-Lane c.args.value.now).others.items) [] (list (each_meaning (λ y. (option_meaning (λ y. (shared_value y.key)) y)) (out-Lane c.args.value.now).others.items)) no_value _ _ _ _ _ c.in-Ok-serialize_vec_option_shared_lane.ensures.serialized (serialized_no_part no_definition _)))))))
+
+pub serialize_whole_lane-returns-clause-goes_on : goal.serialize_whole_lane-returns-clause-goes_on
+serialize_whole_lane-returns-clause-goes_on g t c = (goes_both _ _ _ (goes_both _ _ _ (goes_both _ _ _ c.serialize_part.ensures.goes_on c.serialize_weak_shared_turn.ensures.goes_on) c.serialize_shared_slice_turn.ensures.goes_on) c.serialize_vec_option_shared_lane.ensures.goes_on)
+
+pub serialize_weak_shared_lane-returns-in-None-clause-serialized : goal.serialize_weak_shared_lane-returns-in-None-clause-serialized
+serialize_weak_shared_lane-returns-in-None-clause-serialized g t c = rw c.in-None.is (null_serialized turn_definitions (one lane_shape) _)
+
+pub serialize_weak_shared_lane-returns-in-Err-clause-refused : goal.serialize_weak_shared_lane-returns-in-Err-clause-refused
+serialize_weak_shared_lane-returns-in-Err-clause-refused g t c = rw c.in-Some.is (weak_refused turn_definitions (one lane_shape) _ _ _ _ _ (c.in-Err.ensures.refused.said turn_definitions rc_flavor (one lane_shape) 0 (lane_keys c.in-Some.whole.value.value) (lane_meaning c.in-Some.whole.value.value)))
+
+pub serialize_weak_shared_lane-returns-in-Err-serialize_lane-clause-goes_on : goal.serialize_weak_shared_lane-returns-in-Err-serialize_lane-clause-goes_on
+serialize_weak_shared_lane-returns-in-Err-serialize_lane-clause-goes_on g t c = (goes_both _ _ _ c.begin_shared.ensures.goes_on c.serialize_lane.ensures.goes_on)
+
+pub serialize_weak_shared_lane-returns-in-Err-serialize_lane-clause-refused : goal.serialize_weak_shared_lane-returns-in-Err-serialize_lane-clause-refused
+serialize_weak_shared_lane-returns-in-Err-serialize_lane-clause-refused g t c = rw c.in-Some.is (weak_refused turn_definitions (one lane_shape) _ _ _ _ _ (let same : c.deref-inner.result.now ≡ c.in-Some.whole.value.value = grind (arith, common_steps) in rw (← same) (region_refused turn_definitions (one lane_shape) 0 c.in-Some.whole.key _ _ rc_flavor _ _ _ _ (rw c.in-None-known.is at c.in-Ok.ensures.begun) c.serialize_lane.ensures.goes_on (one_owned turn_definitions lane_shape _ _ _ _ _ c.in-Err-serialize_lane.ensures.refused))))
+
+pub serialize_weak_shared_lane-returns-in-Err-finish_shared-clause-goes_on : goal.serialize_weak_shared_lane-returns-in-Err-finish_shared-clause-goes_on
+serialize_weak_shared_lane-returns-in-Err-finish_shared-clause-goes_on g t c = (c.finish_shared.ensures.goes_on.since _ _ (rw c.in-None-known.is at c.in-Ok.ensures.begun) c.serialize_lane.ensures.goes_on)
+
+pub serialize_weak_shared_lane-returns-in-Err-finish_shared-clause-refused : goal.serialize_weak_shared_lane-returns-in-Err-finish_shared-clause-refused
+serialize_weak_shared_lane-returns-in-Err-finish_shared-clause-refused g t c = rw c.in-Some.is (weak_refused turn_definitions (one lane_shape) _ _ _ _ _ (let same : c.deref-inner.result.now ≡ c.in-Some.whole.value.value = grind (arith, common_steps) in rw (← same) (c.in-Err-finish_shared.ensures.refused.since rc_flavor _ _ (rw c.in-None-known.is at c.in-Ok.ensures.begun) c.serialize_lane.ensures.goes_on c.in-Ok-serialize_lane.ensures.serialized)))
+
+pub serialize_weak_shared_lane-returns-in-Some-known-clause-serialized : goal.serialize_weak_shared_lane-returns-in-Some-known-clause-serialized
+serialize_weak_shared_lane-returns-in-Some-known-clause-serialized g t c = rw c.in-Some.is (weak_serialized turn_definitions (one lane_shape) _ _ _ _ _ ((rw c.in-Some-known.is at c.in-Ok.ensures.known).said turn_definitions rc_flavor (one lane_shape) 0 (lane_keys c.in-Some.whole.value.value) (lane_meaning c.in-Some.whole.value.value)))
+
+pub serialize_weak_shared_lane-returns-in-Ok-finish_shared-clause-serialized : goal.serialize_weak_shared_lane-returns-in-Ok-finish_shared-clause-serialized
+serialize_weak_shared_lane-returns-in-Ok-finish_shared-clause-serialized g t c = rw c.in-Some.is (weak_serialized turn_definitions (one lane_shape) _ _ _ _ _ (let same : c.deref-inner.result.now ≡ c.in-Some.whole.value.value = grind (arith, common_steps) in rw (← same) (c.in-Ok-finish_shared.ensures.shared.since rc_flavor _ _ (rw c.in-None-known.is at c.in-Ok.ensures.begun) c.serialize_lane.ensures.goes_on c.in-Ok-serialize_lane.ensures.serialized)))
+
+pub serialize_weak_shared_lane-returns-in-Ok-finish_shared-clause-goes_on : goal.serialize_weak_shared_lane-returns-in-Ok-finish_shared-clause-goes_on
+serialize_weak_shared_lane-returns-in-Ok-finish_shared-clause-goes_on g t c = (c.finish_shared.ensures.goes_on.since _ _ (rw c.in-None-known.is at c.in-Ok.ensures.begun) c.serialize_lane.ensures.goes_on)
+
+pub serialize_each_weak_shared_turn-returns-in_err-resolvers-clause-refused : goal.serialize_each_weak_shared_turn-returns-in_err-resolvers-clause-refused
+serialize_each_weak_shared_turn-returns-in_err-resolvers-clause-refused g t c = err_by c.from_residual.result OutOfMemory _ c.from_residual.ensures.1 no_memory
+
+pub serialize_each_weak_shared_turn-returns-in-Err-clause-goes_on : goal.serialize_each_weak_shared_turn-returns-in-Err-clause-goes_on
+serialize_each_weak_shared_turn-returns-in-Err-clause-goes_on g t c = goes_both _ _ _ c.loop-value.invariant.continues.goes c.serialize_keyed_turn.ensures.goes_on
+
+pub serialize_each_weak_shared_turn-returns-in-Err-clause-refused : goal.serialize_each_weak_shared_turn-returns-in-Err-clause-refused
+serialize_each_weak_shared_turn-returns-in-Err-clause-refused g t c = continues_broken _ _ _ _ _ _ _ _ _ _ c.loop-value.value-index _ _ _ c.loop-value-test.true c.value-item.is (λ y. (weak_planned turn_definitions rc_flavor (one turn_shape) (λ s. (rc_keys s.key (one turn_shape) 0 (turn_meaning s.value.value) (turn_keys s.value.value))) (λ s. (shared_value s.key)) (λ s. (rc_one_planned turn_definitions s.key (one turn_shape) turn_shape refl _ _ (turn_planned s.value.value))) y.value)) c.loop-value.invariant.continues c.serialize_keyed_turn.ensures.goes_on (let same : c.deref-inner.result.now ≡ c.in-Some.whole.value.value = grind (arith, common_steps) in rw (c.in-Some.is, ← same) (weak_refused turn_definitions (one turn_shape) _ _ _ _ _ c.in-Err.ensures.refused))
+
+pub serialize_keyed_turn-returns-in-Err-clause-refused : goal.serialize_keyed_turn-returns-in-Err-clause-refused
+serialize_keyed_turn-returns-in-Err-clause-refused g t c = (c.in-Err.ensures.refused.said turn_definitions rc_flavor (one turn_shape) 0 (turn_keys c.args.value.now) (turn_meaning c.args.value.now))
+
+pub serialize_keyed_turn-returns-in-Err-serialize_turn-clause-goes_on : goal.serialize_keyed_turn-returns-in-Err-serialize_turn-clause-goes_on
+serialize_keyed_turn-returns-in-Err-serialize_turn-clause-goes_on g t c = (goes_both _ _ _ c.begin_shared.ensures.goes_on c.serialize_turn.ensures.goes_on)
+
+pub serialize_keyed_turn-returns-in-Err-serialize_turn-clause-refused : goal.serialize_keyed_turn-returns-in-Err-serialize_turn-clause-refused
+serialize_keyed_turn-returns-in-Err-serialize_turn-clause-refused g t c = ((region_refused turn_definitions (one turn_shape) 0 c.args.key _ _ rc_flavor _ _ _ _ (rw c.in-None.is at c.in-Ok.ensures.begun) c.serialize_turn.ensures.goes_on (one_owned turn_definitions turn_shape _ _ _ _ _ c.in-Err-serialize_turn.ensures.refused)))
+
+pub serialize_keyed_turn-returns-in-Err-finish_shared-clause-goes_on : goal.serialize_keyed_turn-returns-in-Err-finish_shared-clause-goes_on
+serialize_keyed_turn-returns-in-Err-finish_shared-clause-goes_on g t c = (c.finish_shared.ensures.goes_on.since _ _ (rw c.in-None.is at c.in-Ok.ensures.begun) c.serialize_turn.ensures.goes_on)
+
+pub serialize_keyed_turn-returns-in-Err-finish_shared-clause-refused : goal.serialize_keyed_turn-returns-in-Err-finish_shared-clause-refused
+serialize_keyed_turn-returns-in-Err-finish_shared-clause-refused g t c = ((c.in-Err-finish_shared.ensures.refused.since rc_flavor _ _ (rw c.in-None.is at c.in-Ok.ensures.begun) c.serialize_turn.ensures.goes_on c.in-Ok-serialize_turn.ensures.serialized))
+
+pub serialize_keyed_turn-returns-in-Some-clause-serialized : goal.serialize_keyed_turn-returns-in-Some-clause-serialized
+serialize_keyed_turn-returns-in-Some-clause-serialized g t c = ((rw c.in-Some.is at c.in-Ok.ensures.known).said turn_definitions rc_flavor (one turn_shape) 0 (turn_keys c.args.value.now) (turn_meaning c.args.value.now))
+
+pub serialize_keyed_turn-returns-in-Ok-finish_shared-clause-serialized : goal.serialize_keyed_turn-returns-in-Ok-finish_shared-clause-serialized
+serialize_keyed_turn-returns-in-Ok-finish_shared-clause-serialized g t c = ((c.in-Ok-finish_shared.ensures.shared.since rc_flavor _ _ (rw c.in-None.is at c.in-Ok.ensures.begun) c.serialize_turn.ensures.goes_on c.in-Ok-serialize_turn.ensures.serialized))
+
+pub serialize_keyed_turn-returns-in-Ok-finish_shared-clause-goes_on : goal.serialize_keyed_turn-returns-in-Ok-finish_shared-clause-goes_on
+serialize_keyed_turn-returns-in-Ok-finish_shared-clause-goes_on g t c = (c.finish_shared.ensures.goes_on.since _ _ (rw c.in-None.is at c.in-Ok.ensures.begun) c.serialize_turn.ensures.goes_on)
+
+pub serialize_each_weak_shared_turn-returns-in_err-resolvers-clause-goes_on : goal.serialize_each_weak_shared_turn-returns-in_err-resolvers-clause-goes_on
+serialize_each_weak_shared_turn-returns-in_err-resolvers-clause-goes_on g t c = goes_nowhere _
+
+pub serialize_each_weak_shared_turn-returns-in_err-map_err-in-None-clause-refused : goal.serialize_each_weak_shared_turn-returns-in_err-map_err-in-None-clause-refused
+serialize_each_weak_shared_turn-returns-in_err-map_err-in-None-clause-refused g t c = err_by c.from_residual-in_err-map_err-in-None.result OutOfMemory _ c.from_residual-in_err-map_err-in-None.ensures.1 no_memory
+
+pub serialize_each_weak_shared_turn-returns-in_err-map_err-in-Some-clause-goes_on : goal.serialize_each_weak_shared_turn-returns-in_err-map_err-in-Some-clause-goes_on
+serialize_each_weak_shared_turn-returns-in_err-map_err-in-Some-clause-goes_on g t c = goes_both _ _ _ c.loop-value.invariant.continues.goes c.serialize_keyed_turn.ensures.goes_on
+
+pub serialize_each_weak_shared_turn-returns-in_err-map_err-in-Some-clause-refused : goal.serialize_each_weak_shared_turn-returns-in_err-map_err-in-Some-clause-refused
+serialize_each_weak_shared_turn-returns-in_err-map_err-in-Some-clause-refused g t c = err_by c.from_residual-in_err-map_err-in-Some.result OutOfMemory _ c.from_residual-in_err-map_err-in-Some.ensures.1 no_memory
+
+pub serialize_each_weak_shared_turn-loop-value-preserved : goal.serialize_each_weak_shared_turn-loop-value-preserved
+serialize_each_weak_shared_turn-loop-value-preserved g t c = record { continues = elim c.match-value.branch [ serialize_each_weak_shared_turn-in-None+in_ok-map_err-in-None w ↦ rw (w.serializer-is, w.resolvers-is) (continues_step _ _ _ _ _ _ _ _ _ _ c.loop-value.value-index _ _ _ None c.loop-value-test.true c.value-item.is (grind (arith, common_steps, w.push.ensures.items, w.map_err.ensures.variant, w.branch-map_err.ensures, w.in_ok-map_err-in-None.is)) c.loop-value.invariant.continues (rw w.in-None.is (null_serialized turn_definitions (one turn_shape) _)) tt (goes_nowhere _)) | serialize_each_weak_shared_turn-in-Some+in-Ok+in_ok-map_err-in-Some w ↦ rw (w.serializer-is, w.resolvers-is) (continues_step _ _ _ _ _ _ _ _ _ _ c.loop-value.value-index _ _ _ (Some w.in-Ok.resolver) c.loop-value-test.true c.value-item.is (grind (arith, common_steps, w.push-in-Some.ensures.items, w.map_err-in-Some.ensures.variant, w.branch-map_err-in-Some.ensures, w.in_ok-map_err-in-Some.is)) c.loop-value.invariant.continues (let same : w.deref-inner.result.now ≡ w.in-Some.whole.value.value = grind (arith, common_steps) in rw (w.in-Some.is, ← same) (weak_serialized turn_definitions (one turn_shape) _ _ _ _ _ w.in-Ok.ensures.serialized)) tt w.serialize_keyed_turn.ensures.goes_on) ] }
+
+pub serialize_each_weak_shared_turn-returns-clause-serialized : goal.serialize_each_weak_shared_turn-returns-clause-serialized
+serialize_each_weak_shared_turn-returns-clause-serialized g t c = continues_end _ _ _ _ _ _ _ _ _ _ _ (drop_of_length-le _ c.loop-value-test.false) c.loop-value.invariant.continues
+
+pub serialize_each_weak_shared_turn-returns-clause-same_values : goal.serialize_each_weak_shared_turn-returns-clause-same_values
+serialize_each_weak_shared_turn-returns-clause-same_values g t c = belongs_end _ _ _ _ _ _ _ _ _ _ _ (drop_of_length-le _ c.loop-value-test.false) c.loop-value.invariant.continues
+
+pub serialize_vec_weak_shared_turn-returns-then-len-clause-refused : goal.serialize_vec_weak_shared_turn-returns-then-len-clause-refused
+serialize_vec_weak_shared_turn-returns-then-len-clause-refused g t c = (let long : 4294967295 < length c.args.value.now.items = (let whole : length c.args.value.now.items ≡ c.len.result = grind (arith, common_steps, c.len.ensures) in omega (arith, c.if-len.true, whole)) in vec_refused turn_definitions (weak rc_flavor (one turn_shape)) (length c.args.value.now.items) (each_keys (λ y. (option_keys (λ s. (rc_keys s.key (one turn_shape) 0 (turn_meaning s.value.value) (turn_keys s.value.value))) y.value)) c.args.value.now.items) (list (each_meaning (λ y. (weak_value (λ s. (shared_value s.key)) y.value)) c.args.value.now.items)) _ _ _ (long_run_refused turn_definitions (weak rc_flavor (one turn_shape)) (length c.args.value.now.items) (each_keys (λ y. (option_keys (λ s. (rc_keys s.key (one turn_shape) 0 (turn_meaning s.value.value) (turn_keys s.value.value))) y.value)) c.args.value.now.items) (each_meaning (λ y. (weak_value (λ s. (shared_value s.key)) y.value)) c.args.value.now.items) _ _ (each_planned turn_definitions (weak rc_flavor (one turn_shape)) (λ y. (option_keys (λ s. (rc_keys s.key (one turn_shape) 0 (turn_meaning s.value.value) (turn_keys s.value.value))) y.value)) (λ y. (weak_value (λ s. (shared_value s.key)) y.value)) (λ y. (weak_planned turn_definitions rc_flavor (one turn_shape) (λ s. (rc_keys s.key (one turn_shape) 0 (turn_meaning s.value.value) (turn_keys s.value.value))) (λ s. (shared_value s.key)) (λ s. (rc_one_planned turn_definitions s.key (one turn_shape) turn_shape refl _ _ (turn_planned s.value.value))) y.value)) c.args.value.now.items) long))
+
+pub serialize_vec_weak_shared_turn-returns-in-Err-clause-refused : goal.serialize_vec_weak_shared_turn-returns-in-Err-clause-refused
+serialize_vec_weak_shared_turn-returns-in-Err-clause-refused g t c = vec_refused turn_definitions (weak rc_flavor (one turn_shape)) (length c.args.value.now.items) (each_keys (λ y. (option_keys (λ s. (rc_keys s.key (one turn_shape) 0 (turn_meaning s.value.value) (turn_keys s.value.value))) y.value)) c.args.value.now.items) (list (each_meaning (λ y. (weak_value (λ s. (shared_value s.key)) y.value)) c.args.value.now.items)) _ _ _ (run_owned turn_definitions (weak rc_flavor (one turn_shape)) (length c.args.value.now.items) (each_keys (λ y. (option_keys (λ s. (rc_keys s.key (one turn_shape) 0 (turn_meaning s.value.value) (turn_keys s.value.value))) y.value)) c.args.value.now.items) (each_meaning (λ y. (weak_value (λ s. (shared_value s.key)) y.value)) c.args.value.now.items) _ _ _ (rw c.as_slice-items.ensures.value at c.in-Err.ensures.refused))
+
+pub serialize_vec_weak_shared_turn-returns-in-Ok-serialize_run-clause-serialized : goal.serialize_vec_weak_shared_turn-returns-in-Ok-serialize_run-clause-serialized
+serialize_vec_weak_shared_turn-returns-in-Ok-serialize_run-clause-serialized g t c = (rw c.as_slice-items.ensures.value at c.in-Ok-serialize_run.ensures.listed).since _ c.serialize_each_weak_shared_turn.ensures.goes_on (rw c.as_slice-items.ensures.value at c.in-Ok.ensures.serialized)
+
+pub serialize_vec_weak_shared_turn-returns-in-Ok-serialize_run-clause-goes_on : goal.serialize_vec_weak_shared_turn-returns-in-Ok-serialize_run-clause-goes_on
+serialize_vec_weak_shared_turn-returns-in-Ok-serialize_run-clause-goes_on g t c = (goes_both _ _ _ c.serialize_each_weak_shared_turn.ensures.goes_on c.serialize_run.ensures.goes_on)
+
+pub serialize_vec_weak_shared_turn-returns-in-Err-serialize_run-clause-goes_on : goal.serialize_vec_weak_shared_turn-returns-in-Err-serialize_run-clause-goes_on
+serialize_vec_weak_shared_turn-returns-in-Err-serialize_run-clause-goes_on g t c = (goes_both _ _ _ c.serialize_each_weak_shared_turn.ensures.goes_on c.serialize_run.ensures.goes_on)
+
+pub serialize_vec_weak_shared_turn-returns-in-Err-serialize_run-clause-refused : goal.serialize_vec_weak_shared_turn-returns-in-Err-serialize_run-clause-refused
+serialize_vec_weak_shared_turn-returns-in-Err-serialize_run-clause-refused g t c = (rw c.as_slice-items.ensures.value at c.in-Err-serialize_run.ensures.refused).since _ c.serialize_each_weak_shared_turn.ensures.goes_on (rw c.as_slice-items.ensures.value at c.in-Ok.ensures.serialized)
+
+pub serialize_each_lane-returns-in_err-resolvers-clause-refused : goal.serialize_each_lane-returns-in_err-resolvers-clause-refused
+serialize_each_lane-returns-in_err-resolvers-clause-refused g t c = err_by c.from_residual.result OutOfMemory _ c.from_residual.ensures.1 no_memory
+
+pub serialize_each_lane-returns-in-Err-clause-goes_on : goal.serialize_each_lane-returns-in-Err-clause-goes_on
+serialize_each_lane-returns-in-Err-clause-goes_on g t c = goes_both _ _ _ c.loop-value.invariant.continues.goes c.serialize_lane.ensures.goes_on
+
+pub serialize_each_lane-returns-in-Err-clause-refused : goal.serialize_each_lane-returns-in-Err-clause-refused
+serialize_each_lane-returns-in-Err-clause-refused g t c = rw c.handed_on.ensures (continues_broken _ _ _ _ _ _ _ _ _ _ c.loop-value.value-index _ _ _ c.loop-value-test.true c.value-item.is lane_planned c.loop-value.invariant.continues c.serialize_lane.ensures.goes_on c.in-Err.ensures.refused)
+
+pub serialize_each_lane-returns-in_err-resolvers-clause-goes_on : goal.serialize_each_lane-returns-in_err-resolvers-clause-goes_on
+serialize_each_lane-returns-in_err-resolvers-clause-goes_on g t c = goes_nowhere _
+
+pub serialize_each_lane-loop-value-preserved : goal.serialize_each_lane-loop-value-preserved
+serialize_each_lane-loop-value-preserved g t c = record { continues = continues_step _ _ _ _ _ _ _ _ _ _ c.loop-value.value-index _ _ _ _ c.loop-value-test.true c.value-item.is (grind (arith, common_steps)) c.loop-value.invariant.continues c.in-Ok.ensures.serialized c.in-Ok.ensures.same_value c.serialize_lane.ensures.goes_on; reserved = (grind (arith, common_steps, c.loop-value.invariant.reserved.0), grind (arith, common_steps, c.loop-value.invariant.reserved.1)) }
+
+pub serialize_each_lane-returns-clause-serialized : goal.serialize_each_lane-returns-clause-serialized
+serialize_each_lane-returns-clause-serialized g t c = continues_end _ _ _ _ _ _ _ _ _ _ _ (drop_of_length-le _ c.loop-value-test.false) c.loop-value.invariant.continues
+
+pub serialize_each_lane-returns-clause-same_values : goal.serialize_each_lane-returns-clause-same_values
+serialize_each_lane-returns-clause-same_values g t c = belongs_end _ _ _ _ _ _ _ _ _ _ _ (drop_of_length-le _ c.loop-value-test.false) c.loop-value.invariant.continues
+
+pub serialize_shared_slice_lane-returns-in-Err-clause-refused : goal.serialize_shared_slice_lane-returns-in-Err-clause-refused
+serialize_shared_slice_lane-returns-in-Err-clause-refused g t c = (c.in-Err.ensures.refused.said turn_definitions rc_flavor lane_shape (each_keys lane_keys c.args.values.now) (each_meaning lane_meaning c.args.values.now) (each_planned turn_definitions lane_shape lane_keys lane_meaning lane_planned c.args.values.now))
+
+pub serialize_shared_slice_lane-returns-in-Err-serialize_each_lane-clause-goes_on : goal.serialize_shared_slice_lane-returns-in-Err-serialize_each_lane-clause-goes_on
+serialize_shared_slice_lane-returns-in-Err-serialize_each_lane-clause-goes_on g t c = (goes_both _ _ _ c.begin_shared_slice.ensures.goes_on c.serialize_each_lane.ensures.goes_on)
+
+pub serialize_shared_slice_lane-returns-in-Err-serialize_each_lane-clause-refused : goal.serialize_shared_slice_lane-returns-in-Err-serialize_each_lane-clause-refused
+serialize_shared_slice_lane-returns-in-Err-serialize_each_lane-clause-refused g t c = (region_refused turn_definitions (run lane_shape) (length c.args.values.now) c.args.key (each_keys lane_keys c.args.values.now) (list (each_meaning lane_meaning c.args.values.now)) rc_flavor _ _ _ _ (rw c.in-None.is at c.in-Ok.ensures.begun) c.serialize_each_lane.ensures.goes_on (run_owned turn_definitions lane_shape (length c.args.values.now) (each_keys lane_keys c.args.values.now) (each_meaning lane_meaning c.args.values.now) _ _ _ c.in-Err-serialize_each_lane.ensures.refused))
+
+pub serialize_shared_slice_lane-returns-in-Err-finish_shared_slice-clause-goes_on : goal.serialize_shared_slice_lane-returns-in-Err-finish_shared_slice-clause-goes_on
+serialize_shared_slice_lane-returns-in-Err-finish_shared_slice-clause-goes_on g t c = (c.finish_shared_slice.ensures.goes_on.since _ _ (rw c.in-None.is at c.in-Ok.ensures.begun) c.serialize_each_lane.ensures.goes_on)
+
+pub serialize_shared_slice_lane-returns-in-Err-finish_shared_slice-clause-refused : goal.serialize_shared_slice_lane-returns-in-Err-finish_shared_slice-clause-refused
+serialize_shared_slice_lane-returns-in-Err-finish_shared_slice-clause-refused g t c = (c.in-Err-finish_shared_slice.ensures.refused.since rc_flavor _ _ (rw c.in-None.is at c.in-Ok.ensures.begun) c.serialize_each_lane.ensures.goes_on c.in-Ok-serialize_each_lane.ensures.serialized)
+
+pub serialize_shared_slice_lane-returns-in-Some-clause-serialized : goal.serialize_shared_slice_lane-returns-in-Some-clause-serialized
+serialize_shared_slice_lane-returns-in-Some-clause-serialized g t c = ((rw c.in-Some.is at c.in-Ok.ensures.known).said turn_definitions rc_flavor (run lane_shape) (length c.args.values.now) (each_keys lane_keys c.args.values.now) (list (each_meaning lane_meaning c.args.values.now)))
+
+pub serialize_shared_slice_lane-returns-in-Ok-finish_shared_slice-clause-serialized : goal.serialize_shared_slice_lane-returns-in-Ok-finish_shared_slice-clause-serialized
+serialize_shared_slice_lane-returns-in-Ok-finish_shared_slice-clause-serialized g t c = (c.in-Ok-finish_shared_slice.ensures.shared.since rc_flavor _ _ (rw c.in-None.is at c.in-Ok.ensures.begun) c.serialize_each_lane.ensures.goes_on c.in-Ok-serialize_each_lane.ensures.serialized)
+
+pub serialize_shared_slice_lane-returns-in-Ok-finish_shared_slice-clause-goes_on : goal.serialize_shared_slice_lane-returns-in-Ok-finish_shared_slice-clause-goes_on
+serialize_shared_slice_lane-returns-in-Ok-finish_shared_slice-clause-goes_on g t c = (c.finish_shared_slice.ensures.goes_on.since _ _ (rw c.in-None.is at c.in-Ok.ensures.begun) c.serialize_each_lane.ensures.goes_on)
+
+pub serialize_shared_turn-returns-in-Err-clause-refused : goal.serialize_shared_turn-returns-in-Err-clause-refused
+serialize_shared_turn-returns-in-Err-clause-refused g t c = (c.in-Err.ensures.refused.said turn_definitions rc_flavor (one turn_shape) 0 (turn_keys c.args.value.now.value.value) (turn_meaning c.args.value.now.value.value))
+
+pub serialize_shared_turn-returns-in-Err-serialize_turn-clause-goes_on : goal.serialize_shared_turn-returns-in-Err-serialize_turn-clause-goes_on
+serialize_shared_turn-returns-in-Err-serialize_turn-clause-goes_on g t c = (goes_both _ _ _ c.begin_shared.ensures.goes_on c.serialize_turn.ensures.goes_on)
+
+pub serialize_shared_turn-returns-in-Err-serialize_turn-clause-refused : goal.serialize_shared_turn-returns-in-Err-serialize_turn-clause-refused
+serialize_shared_turn-returns-in-Err-serialize_turn-clause-refused g t c = (let same : c.deref-inner.result.now ≡ c.args.value.now.value.value = grind (arith, common_steps) in rw (← same) (region_refused turn_definitions (one turn_shape) 0 c.args.value.now.key _ _ rc_flavor _ _ _ _ (rw c.in-None.is at c.in-Ok.ensures.begun) c.serialize_turn.ensures.goes_on (one_owned turn_definitions turn_shape _ _ _ _ _ c.in-Err-serialize_turn.ensures.refused)))
+
+pub serialize_shared_turn-returns-in-Err-finish_shared-clause-goes_on : goal.serialize_shared_turn-returns-in-Err-finish_shared-clause-goes_on
+serialize_shared_turn-returns-in-Err-finish_shared-clause-goes_on g t c = (c.finish_shared.ensures.goes_on.since _ _ (rw c.in-None.is at c.in-Ok.ensures.begun) c.serialize_turn.ensures.goes_on)
+
+pub serialize_shared_turn-returns-in-Err-finish_shared-clause-refused : goal.serialize_shared_turn-returns-in-Err-finish_shared-clause-refused
+serialize_shared_turn-returns-in-Err-finish_shared-clause-refused g t c = (let same : c.deref-inner.result.now ≡ c.args.value.now.value.value = grind (arith, common_steps) in rw (← same) (c.in-Err-finish_shared.ensures.refused.since rc_flavor _ _ (rw c.in-None.is at c.in-Ok.ensures.begun) c.serialize_turn.ensures.goes_on c.in-Ok-serialize_turn.ensures.serialized))
+
+pub serialize_shared_turn-returns-in-Some-clause-serialized : goal.serialize_shared_turn-returns-in-Some-clause-serialized
+serialize_shared_turn-returns-in-Some-clause-serialized g t c = ((rw c.in-Some.is at c.in-Ok.ensures.known).said turn_definitions rc_flavor (one turn_shape) 0 (turn_keys c.args.value.now.value.value) (turn_meaning c.args.value.now.value.value))
+
+pub serialize_shared_turn-returns-in-Ok-finish_shared-clause-serialized : goal.serialize_shared_turn-returns-in-Ok-finish_shared-clause-serialized
+serialize_shared_turn-returns-in-Ok-finish_shared-clause-serialized g t c = (let same : c.deref-inner.result.now ≡ c.args.value.now.value.value = grind (arith, common_steps) in rw (← same) (c.in-Ok-finish_shared.ensures.shared.since rc_flavor _ _ (rw c.in-None.is at c.in-Ok.ensures.begun) c.serialize_turn.ensures.goes_on c.in-Ok-serialize_turn.ensures.serialized))
+
+pub serialize_shared_turn-returns-in-Ok-finish_shared-clause-goes_on : goal.serialize_shared_turn-returns-in-Ok-finish_shared-clause-goes_on
+serialize_shared_turn-returns-in-Ok-finish_shared-clause-goes_on g t c = (c.finish_shared.ensures.goes_on.since _ _ (rw c.in-None.is at c.in-Ok.ensures.begun) c.serialize_turn.ensures.goes_on)
+
+pub serialize_turn_weak-returns-in-Err-clause-refused : goal.serialize_turn_weak-returns-in-Err-clause-refused
+serialize_turn_weak-returns-in-Err-clause-refused g t c = (variant_refused turn_definitions turn_shape turn_name turn_variant_definitions turn_variants turn_has_variants 1 turn_weak_parts refl turn_weak_definitions refl _ _ _ _ _ (first_refused turn_definitions no_definition (weak rc_flavor (one lane_shape)) no_part (option_keys (λ s. (rc_keys s.key (one lane_shape) 0 (lane_meaning s.value.value) (lane_keys s.value.value))) c.args.a0.now.value) [] (weak_value (λ s. (shared_value s.key)) c.args.a0.now.value) no_value _ _ _ no_part_planned c.in-Err.ensures.refused))
+
+pub serialize_turn_weak-returns-clause-serialized : goal.serialize_turn_weak-returns-clause-serialized
+serialize_turn_weak-returns-clause-serialized g t c = (serialized_variant turn_definitions turn_shape turn_name turn_variant_definitions turn_variants turn_has_variants 1 turn_weak_parts refl turn_weak_definitions refl _ _ _ _ _ (serialized_part turn_definitions no_definition (weak rc_flavor (one lane_shape)) no_part (option_keys (λ s. (rc_keys s.key (one lane_shape) 0 (lane_meaning s.value.value) (lane_keys s.value.value))) c.args.a0.now.value) [] (weak_value (λ s. (shared_value s.key)) c.args.a0.now.value) no_value _ _ _ _ _ c.in-Ok.ensures.serialized (serialized_no_part no_definition _)))
+
+pub serialize_turn_weaks-returns-in-Err-clause-refused : goal.serialize_turn_weaks-returns-in-Err-clause-refused
+serialize_turn_weaks-returns-in-Err-clause-refused g t c = (variant_refused turn_definitions turn_shape turn_name turn_variant_definitions turn_variants turn_has_variants 2 turn_weaks_parts refl turn_weaks_definitions refl _ _ _ _ _ (first_refused turn_definitions no_definition (vec (weak rc_flavor (one turn_shape))) no_part (each_keys (λ y. (option_keys (λ s. (rc_keys s.key (one turn_shape) 0 (turn_meaning s.value.value) (turn_keys s.value.value))) y.value)) c.args.a0.now.items) [] (list (each_meaning (λ y. (weak_value (λ s. (shared_value s.key)) y.value)) c.args.a0.now.items)) no_value _ _ _ no_part_planned c.in-Err.ensures.refused))
+
+pub serialize_turn_weaks-returns-clause-serialized : goal.serialize_turn_weaks-returns-clause-serialized
+serialize_turn_weaks-returns-clause-serialized g t c = (serialized_variant turn_definitions turn_shape turn_name turn_variant_definitions turn_variants turn_has_variants 2 turn_weaks_parts refl turn_weaks_definitions refl _ _ _ _ _ (serialized_part turn_definitions no_definition (vec (weak rc_flavor (one turn_shape))) no_part (each_keys (λ y. (option_keys (λ s. (rc_keys s.key (one turn_shape) 0 (turn_meaning s.value.value) (turn_keys s.value.value))) y.value)) c.args.a0.now.items) [] (list (each_meaning (λ y. (weak_value (λ s. (shared_value s.key)) y.value)) c.args.a0.now.items)) no_value _ _ _ _ _ c.in-Ok.ensures.serialized (serialized_no_part no_definition _)))
+
+pub serialize_turn_one-returns-in-Err-clause-refused : goal.serialize_turn_one-returns-in-Err-clause-refused
+serialize_turn_one-returns-in-Err-clause-refused g t c = (variant_refused turn_definitions turn_shape turn_name turn_variant_definitions turn_variants turn_has_variants 4 turn_one_parts refl turn_one_definitions refl _ _ _ _ _ (first_refused turn_definitions no_definition (shared rc_flavor (one turn_shape)) no_part (rc_keys c.args.a0.now.key (one turn_shape) 0 (turn_meaning c.args.a0.now.value.value) (turn_keys c.args.a0.now.value.value)) [] (shared_value c.args.a0.now.key) no_value _ _ _ no_part_planned c.in-Err.ensures.refused))
+
+pub serialize_turn_one-returns-clause-serialized : goal.serialize_turn_one-returns-clause-serialized
+serialize_turn_one-returns-clause-serialized g t c = (serialized_variant turn_definitions turn_shape turn_name turn_variant_definitions turn_variants turn_has_variants 4 turn_one_parts refl turn_one_definitions refl _ _ _ _ _ (serialized_part turn_definitions no_definition (shared rc_flavor (one turn_shape)) no_part (rc_keys c.args.a0.now.key (one turn_shape) 0 (turn_meaning c.args.a0.now.value.value) (turn_keys c.args.a0.now.value.value)) [] (shared_value c.args.a0.now.key) no_value _ _ _ _ _ c.in-Ok.ensures.serialized (serialized_no_part no_definition _)))
+
+pub serialize_whole_turn-returns-in-Ok-clause-serialized : goal.serialize_whole_turn-returns-in-Ok-clause-serialized
+serialize_whole_turn-returns-in-Ok-clause-serialized g t c = rw c.in-Leaf.is (written_as (turn_leaf_has_keys c.in-Leaf.a0) (turn_leaf_means c.in-Leaf.a0) (rw (turn_leaf_opens c.in-Leaf.a0) refl) c.in-Ok.ensures.serialized)
+
+pub serialize_whole_turn-returns-in-Ok-clause-same_value : goal.serialize_whole_turn-returns-in-Ok-clause-same_value
+serialize_whole_turn-returns-in-Ok-clause-same_value g t c = rw (c.in-Leaf.is, turn_leaf_opens c.in-Leaf.a0) c.in-Ok.ensures.same_values
+
+pub serialize_whole_turn-returns-in-Err-clause-refused : goal.serialize_whole_turn-returns-in-Err-clause-refused
+serialize_whole_turn-returns-in-Err-clause-refused g t c = rw c.in-Leaf.is (refused_as (turn_leaf_has_keys c.in-Leaf.a0) (turn_leaf_means c.in-Leaf.a0) c.in-Err.ensures.refused)
+
+pub serialize_whole_turn-returns-in-Ok-serialize_turn_weak-clause-serialized : goal.serialize_whole_turn-returns-in-Ok-serialize_turn_weak-clause-serialized
+serialize_whole_turn-returns-in-Ok-serialize_turn_weak-clause-serialized g t c = rw c.in-Weak.is (written_as (turn_weak_has_keys c.in-Weak.a0) (turn_weak_means c.in-Weak.a0) (rw (turn_weak_opens c.in-Weak.a0) refl) c.in-Ok-serialize_turn_weak.ensures.serialized)
+
+pub serialize_whole_turn-returns-in-Ok-serialize_turn_weak-clause-same_value : goal.serialize_whole_turn-returns-in-Ok-serialize_turn_weak-clause-same_value
+serialize_whole_turn-returns-in-Ok-serialize_turn_weak-clause-same_value g t c = rw (c.in-Weak.is, turn_weak_opens c.in-Weak.a0) c.in-Ok-serialize_turn_weak.ensures.same_values
+
+pub serialize_whole_turn-returns-in-Err-serialize_turn_weak-clause-refused : goal.serialize_whole_turn-returns-in-Err-serialize_turn_weak-clause-refused
+serialize_whole_turn-returns-in-Err-serialize_turn_weak-clause-refused g t c = rw c.in-Weak.is (refused_as (turn_weak_has_keys c.in-Weak.a0) (turn_weak_means c.in-Weak.a0) c.in-Err-serialize_turn_weak.ensures.refused)
+
+pub serialize_whole_turn-returns-in-Ok-serialize_turn_weaks-clause-serialized : goal.serialize_whole_turn-returns-in-Ok-serialize_turn_weaks-clause-serialized
+serialize_whole_turn-returns-in-Ok-serialize_turn_weaks-clause-serialized g t c = rw c.in-Weaks.is (written_as (turn_weaks_has_keys c.in-Weaks.a0) (turn_weaks_means c.in-Weaks.a0) (rw (turn_weaks_opens c.in-Weaks.a0) refl) c.in-Ok-serialize_turn_weaks.ensures.serialized)
+
+pub serialize_whole_turn-returns-in-Ok-serialize_turn_weaks-clause-same_value : goal.serialize_whole_turn-returns-in-Ok-serialize_turn_weaks-clause-same_value
+serialize_whole_turn-returns-in-Ok-serialize_turn_weaks-clause-same_value g t c = rw (c.in-Weaks.is, turn_weaks_opens c.in-Weaks.a0) c.in-Ok-serialize_turn_weaks.ensures.same_values
+
+pub serialize_whole_turn-returns-in-Err-serialize_turn_weaks-clause-refused : goal.serialize_whole_turn-returns-in-Err-serialize_turn_weaks-clause-refused
+serialize_whole_turn-returns-in-Err-serialize_turn_weaks-clause-refused g t c = rw c.in-Weaks.is (refused_as (turn_weaks_has_keys c.in-Weaks.a0) (turn_weaks_means c.in-Weaks.a0) c.in-Err-serialize_turn_weaks.ensures.refused)
+
+pub serialize_whole_turn-returns-in-Err-serialize_shared_slice_lane-clause-refused : goal.serialize_whole_turn-returns-in-Err-serialize_shared_slice_lane-clause-refused
+serialize_whole_turn-returns-in-Err-serialize_shared_slice_lane-clause-refused g t c = rw c.in-Slice.is (refused_as (turn_slice_has_keys c.in-Slice.a0) (turn_slice_means c.in-Slice.a0) (variant_refused turn_definitions turn_shape turn_name turn_variant_definitions turn_variants turn_has_variants 3 turn_slice_parts refl turn_slice_definitions refl _ _ _ _ _ (first_refused turn_definitions no_definition (shared rc_flavor (run lane_shape)) no_part (rc_keys c.in-Slice.a0.key (run lane_shape) (length c.in-Slice.a0.value.items.value.items) (list (each_meaning lane_meaning c.in-Slice.a0.value.items.value.items)) (each_keys lane_keys c.in-Slice.a0.value.items.value.items)) [] (shared_value c.in-Slice.a0.key) no_value _ _ _ no_part_planned (rw c.as_slice-items.ensures.value at c.in-Err-serialize_shared_slice_lane.ensures.refused))))
+
+pub serialize_whole_turn-returns-in-Ok-serialize_shared_slice_lane-clause-serialized : goal.serialize_whole_turn-returns-in-Ok-serialize_shared_slice_lane-clause-serialized
+serialize_whole_turn-returns-in-Ok-serialize_shared_slice_lane-clause-serialized g t c = rw c.in-Slice.is (written_as (turn_slice_has_keys c.in-Slice.a0) (turn_slice_means c.in-Slice.a0) (rw (turn_slice_opens c.in-Slice.a0) refl) (serialized_variant turn_definitions turn_shape turn_name turn_variant_definitions turn_variants turn_has_variants 3 turn_slice_parts refl turn_slice_definitions refl _ _ _ _ _ (serialized_part turn_definitions no_definition (shared rc_flavor (run lane_shape)) no_part (rc_keys c.in-Slice.a0.key (run lane_shape) (length c.in-Slice.a0.value.items.value.items) (list (each_meaning lane_meaning c.in-Slice.a0.value.items.value.items)) (each_keys lane_keys c.in-Slice.a0.value.items.value.items)) [] (shared_value c.in-Slice.a0.key) no_value _ _ _ _ _ (rw c.as_slice-items.ensures.value at c.in-Ok-serialize_shared_slice_lane.ensures.serialized) (serialized_no_part no_definition _))))
+
+pub serialize_whole_turn-returns-in-Ok-serialize_shared_slice_lane-clause-same_value : goal.serialize_whole_turn-returns-in-Ok-serialize_shared_slice_lane-clause-same_value
+serialize_whole_turn-returns-in-Ok-serialize_shared_slice_lane-clause-same_value g t c = rw (c.in-Slice.is, turn_slice_opens c.in-Slice.a0) ((rw c.as_slice-items.ensures.value at c.in-Ok-serialize_shared_slice_lane.ensures.same_value), tt)
+
+pub serialize_whole_turn-returns-in-Ok-serialize_turn_one-clause-serialized : goal.serialize_whole_turn-returns-in-Ok-serialize_turn_one-clause-serialized
+serialize_whole_turn-returns-in-Ok-serialize_turn_one-clause-serialized g t c = rw c.in-One.is (written_as (turn_one_has_keys c.in-One.a0) (turn_one_means c.in-One.a0) (rw (turn_one_opens c.in-One.a0) refl) c.in-Ok-serialize_turn_one.ensures.serialized)
+
+pub serialize_whole_turn-returns-in-Ok-serialize_turn_one-clause-same_value : goal.serialize_whole_turn-returns-in-Ok-serialize_turn_one-clause-same_value
+serialize_whole_turn-returns-in-Ok-serialize_turn_one-clause-same_value g t c = rw (c.in-One.is, turn_one_opens c.in-One.a0) c.in-Ok-serialize_turn_one.ensures.same_values
+
+pub serialize_whole_turn-returns-in-Err-serialize_turn_one-clause-refused : goal.serialize_whole_turn-returns-in-Err-serialize_turn_one-clause-refused
+serialize_whole_turn-returns-in-Err-serialize_turn_one-clause-refused g t c = rw c.in-One.is (refused_as (turn_one_has_keys c.in-One.a0) (turn_one_means c.in-One.a0) c.in-Err-serialize_turn_one.ensures.refused)

@@ -1,0 +1,2 @@
+pub mod LaneMeaning
+pub mod LaneShape

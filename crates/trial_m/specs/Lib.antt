@@ -1,0 +1,4 @@
+pub mod AshMeaning
+pub mod AshShape
+pub mod ElmMeaning
+pub mod ElmShape

@@ -1,0 +1,5 @@
+//! Trial.
+#![tactic(auto)]
+
+pub mod ash;
+pub mod elm;

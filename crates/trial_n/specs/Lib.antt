@@ -1,0 +1,2 @@
+pub mod NodeMeaning
+pub mod NodeShape
