@@ -83,6 +83,7 @@ class Declaration:
     parameters: List[Parameter] = field(default_factory=list)
     where: str = ""  # the words behind `where`, as written
     derives: List[str] = field(default_factory=list)  # `Debug`, `PartialEq`, ..
+    is_dropped: bool = False  # derives `Drop` or `Copy`, or has an impl of one above the marker
     attributes: List[str] = field(default_factory=list)  # all of them, as written
     docs: List[str] = field(default_factory=list)
     visibility: str = ""

@@ -7,6 +7,7 @@ import copy
 from typing import Dict, List, Optional, Sequence
 
 from .circles import check_circles
+from .drops import DROPPED, check_drops
 from .model import Declaration, Module, Refused, Type
 from .names import ALIASES, FLOATS, LIBRARY, PRIMITIVES, STD, STD_MODULES, Found, Source, World
 from .parse import Alias, Declared
@@ -99,6 +100,7 @@ class Reader:
             return it
         self.read.append(id(it))
         it.crate, it.module = source.crate, source.module
+        it.is_dropped = is_dropped(it, source)
         self.check(declared, source)
         return self.looked_up(it, Scope(source, {p.name: None for p in it.parameters}, it))
 
@@ -153,6 +155,7 @@ class Reader:
         if id(alias) in self.instances:
             return self.instances[id(alias)]
         generic = declared.declaration
+        generic.is_dropped = is_dropped(generic, source)
         it = self.instances[id(alias)] = copy.deepcopy(generic)
         it.name, it.instance_of, it.archived, it.line = alias.name, generic.name, f"Archived{alias.name}", alias.line
         it.crate, it.module, it.parameters = source.crate, source.module, []
@@ -371,7 +374,13 @@ def module(reader: Reader, source: Source) -> Module:
     checks.check_seen(out)
     checks.check_wide(out)
     checks.check_own_names(out)
+    check_drops(out)
     return out
+
+
+def is_dropped(it: Declaration, source: Source) -> bool:
+    """Whether a declaration has one of the traits by which its values may be let go."""
+    return any(trait in it.derives or (trait, it.name) in source.file.impls for trait in DROPPED)
 
 
 # What isn't proved among more than eight fields of a variant.

@@ -73,7 +73,7 @@ class ArraysWithin(RepositoryTest):
         self.assertIn("[made_option_array4_string(a0),made_option_array4_string(a1)]", text)
 
     def test_an_array_of_own_values(self):
-        text = self.written("struct P { x: u8 }\nstruct A { x: Option<[P; 2]>, y: [Option<[String; 2]>; 1] }\n")
+        text = self.written("#[derive(Drop)]\nstruct P { x: u8 }\nstruct A { x: Option<[P; 2]>, y: [Option<[String; 2]>; 1] }\n")
         self.assertIn("fnmade_option_array2_p(read:Option<OwnedArray<P,2>>)->Option<[P;2]>", text)
         self.assertIn("OwnedArray<Option<OwnedArray<String,2>>,1>", text)
 

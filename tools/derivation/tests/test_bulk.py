@@ -29,9 +29,9 @@ class InBulk(RepositoryTest):
                 self.assertEqual(self.is_copied(f"struct A {{ {fields} }}"), is_there)
 
     def test_in_other_structs(self):
-        self.assertTrue(self.is_copied("struct A { x: B, y: B }\nstruct B(u16, i16);"))
-        self.assertFalse(self.is_copied("struct A { x: B }\nstruct B(Option<u8>);"))
-        self.assertFalse(self.is_copied("struct A { x: B }\nenum B { C, D }"))
+        self.assertTrue(self.is_copied("struct A { x: B, y: B }\n#[derive(Drop)]\nstruct B(u16, i16);"))
+        self.assertFalse(self.is_copied("struct A { x: B }\n#[derive(Drop)]\nstruct B(Option<u8>);"))
+        self.assertFalse(self.is_copied("struct A { x: B }\n#[derive(Drop)]\nenum B { C, D }"))
 
     def test_neither_with_nothing_nor_with_parameters(self):
         for text in ["struct A;", "struct A<T> { x: T }", "enum A { B(u8) }"]:
@@ -39,6 +39,6 @@ class InBulk(RepositoryTest):
                 self.assertFalse(self.is_copied(text))
 
     def test_the_proof_of_a_nest(self):
-        proofs = write.proofs(self.module("struct A { x: B }\nstruct B { y: u8 }"))
+        proofs = write.proofs(self.module("struct A { x: B }\n#[derive(Drop)]\nstruct B { y: u8 }"))
         owned = next(text for path, text in proofs.items() if path.endswith("ACopied/copied_size/Answers.antt"))
         self.assertIn("plain_owns_nothing (plain_parts (plain_part (plain_parts (plain_part plain_leaf plain_none)) plain_none))", owned)

@@ -37,7 +37,7 @@ class Writing(RepositoryTest):
         self.assertEqual(self.text(other), first)
 
     def test_from_a_folder_below(self):
-        crate = os.path.dirname(os.path.dirname(self.put("pub struct Tree { value: u32, children: Vec<Tree> }\n")))
+        crate = os.path.dirname(os.path.dirname(self.put("#[derive(Drop)]\npub struct Tree { value: u32, children: Vec<Tree> }\n")))
         with open(os.path.join(self.top, "crates.txt"), "w", encoding="utf-8") as file:
             file.write("game: archive_core\n")
         self.addCleanup(os.chdir, os.getcwd())
@@ -65,7 +65,7 @@ class Writing(RepositoryTest):
         for more, why in [
             ("struct ArchivedPoint;\n", "`ArchivedPoint` is written by tools/derive; give this one another name"),
             ("enum A { BC(u8) }\nenum AB { C(u8) }\n", "`ABCParts` would be written twice; give one of the types another name"),
-            ("struct Choice { all: Vec<Choice>, list: List }\nenum List { Nil, Cons(Box<List>) }\n", "`define_choice` would be written of `Choice`, and the library has a call of this name; give the type another name"),
+            ("#[derive(Drop)]\nstruct Choice { all: Vec<Choice>, list: List }\nenum List { Nil, Cons(Box<List>) }\n", "`define_choice` would be written of `Choice`, and the library has a call of this name; give the type another name"),
             ("fn pointview() {}\n", "`PointView`, which differs from `pointview` only in case, is written by tools/derive; give this one another name"),
         ]:
             with self.subTest(more):

@@ -40,8 +40,8 @@ class Compared(RepositoryTest):
         self.assertNotIn("impl Ordered", self.written(f"#[derive(Eq)]\nenum K {{ T {{ x: i8 }}, A, S(String), {deep}, N }}"))
 
     def test_a_type_of_others(self):
-        derived = "#[derive(Ord)]\n"
-        text = self.written(f"{derived}struct A {{ b: B }}\n{derived}struct B;\n{derived}struct C {{ d: E }}\nstruct E;")
+        derived = "#[derive(Ord, Drop)]\n"
+        text = self.written(f"{derived}struct A {{ b: B }}\n{derived}struct B;\n{derived}struct C {{ d: E }}\n#[derive(Drop)]\nstruct E;")
         self.assertIn("impl Ordered for ArchivedA {", text)
         self.assertIn("ArchivedBOrdered.TheImpl.Laws.{by_value-law as by_value_of_archived_b, ", text)
         self.assertNotIn("impl Ordered for ArchivedC {", text)

@@ -16,6 +16,7 @@ pub struct Pair<A: Clone, B>(pub A, Vec<B>) where B: Clone;
 // name: Spot
 pub struct Unit;
 pub enum Event { Quit, Key(char, 'x'), Move { x: i32, y: Point }, Batch(Vec<(u32, String)>), More(BoxSlice<Event2>, PhantomData<u8>) }
+#[derive(Drop)]
 pub enum Event2 { A = 1, B(Result<u8, f64>) }
 fn f(x: u8) -> u8 requires { x < 3 } ensures a { result ≡ x } { let y = "}\\""; x }
 type Same<T> = Vec<T>;

@@ -117,13 +117,14 @@ enum All {
 
 class Names(RepositoryTest):
     def test_types_of_other_modules_and_crates(self):
-        self.put(f"pub struct Line {{ a: u8 }}\n\n{MARK}\n", "shapes", "other")
+        self.put(f"#[derive(Drop)]\npub struct Line {{ a: u8 }}\n\n{MARK}\n", "shapes", "other")
         self.put("pub use shapes::Line as Stroke;\nmod shapes;\n", "lib", "other")
-        self.put(f"pub struct Spot {{ a: u8 }}\n\n{MARK}\n", "deep/spot")
+        self.put(f"#[derive(Drop)]\npub struct Spot {{ a: u8 }}\n\n{MARK}\n", "deep/spot")
         text = """use other::Stroke;
 use other::shapes::{self, Line};
 use crate::deep::spot::*;
 struct A { a: Stroke, b: shapes::Line, c: Vec<Line>, d: Spot, e: other::shapes::Line, f: super::deep::spot::Spot, g: B }
+#[derive(Drop)]
 struct B;
 """
         it = self.declaration(text)
@@ -136,7 +137,7 @@ struct B;
     def test_files_that_bring_in_all_of_each_other(self):
         names = [f"m{i}" for i in range(8)]
         all_of = "".join(f"use crate::{it}::*;\n" for it in names)
-        paths = [self.put(f"{all_of}pub struct S{it} {{ x: Vec<S{names[i - 1]}> }}\n" if i else f"{all_of}pub struct S{it};\n", it) for i, it in enumerate(names)]
+        paths = [self.put(f"{all_of}#[derive(Drop)]\npub struct S{it} {{ x: Vec<S{names[i - 1]}> }}\n" if i else f"{all_of}#[derive(Drop)]\npub struct S{it};\n", it) for i, it in enumerate(names)]
         self.assertEqual(read.modules(paths)[7].declarations[0].fields[0].type.args[0].own.name, "Sm6")
         self.put(f"{all_of}pub struct A {{ x: Nowhere }}\n", "m0")
         self.assertIn("`Nowhere` has no format here", self.refusal_of_other(paths[0]))
@@ -154,8 +155,8 @@ struct B;
         self.assertEqual((it.fields[0].type.name, it.fields[0].type.args[0].text, it.fields[0].type.text), ("Vec", "(char, u8)", "Pairs<char>"))
 
     def test_two_files_of_one_run_hold_each_others_types(self):
-        first = self.put("use crate::second::B;\npub struct A { b: B }\npub struct C;\n", "first")
-        second = self.put("use crate::first::C;\npub struct B { c: C }\n", "second")
+        first = self.put("use crate::second::B;\npub struct A { b: B }\n#[derive(Drop)]\npub struct C;\n", "first")
+        second = self.put("use crate::first::C;\n#[derive(Drop)]\npub struct B { c: C }\n", "second")
         modules = read.modules([first, second])
         self.assertIs(modules[0].declarations[0].fields[0].type.own, modules[1].declarations[0])
         self.assertIn("isn't archived yet", self.refusal_of_other(first))

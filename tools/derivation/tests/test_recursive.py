@@ -19,7 +19,7 @@ class Recursive(RepositoryTest):
 
     def test_what_is_kept_is_seen_as_the_type_is(self):
         for seen in ("", "pub(crate) ", "pub "):
-            text = write.written(self.module(f"{seen}struct P;\n{seen}enum L {{ N, C(P, Box<L>) }}\n{seen}enum T {{ U(P), V(Vec<T>) }}"))
+            text = write.written(self.module(f"#[derive(Drop)]\n{seen}struct P;\n{seen}enum L {{ N, C(P, Box<L>) }}\n#[derive(Drop)]\n{seen}enum T {{ U(P), V(Vec<T>) }}"))
             for name in ("LResolver", "LKept", "LFront", "TResolver"):
                 self.assertIn(f"\n{seen}enum {name} {{", text)
 

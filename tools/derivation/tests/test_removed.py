@@ -93,7 +93,7 @@ class Removed(RepositoryTest):
 
     def test_a_type_at_the_root_has_files_of_its_own(self):
         variants = ", ".join(f"V{i}" for i in range(12))
-        knot = "pub struct Knot { id: u32, next: Vec<Shared<Knot>> }\n"
+        knot = "#[derive(Drop)]\npub struct Knot { id: u32, next: Vec<Shared<Knot>> }\n"
         path = self.put(f"use archive_core::rc::Shared;\n#[derive(Drop)]\npub enum Many {{ {variants}, Of(u8) }}\n{LIST}{TREE}{knot}", "lib")
         self.assertEqual(self.run_command(path), (0, ""))
         for folder, _, names in os.walk(os.path.join(self.top, "crates", "game")):
