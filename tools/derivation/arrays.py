@@ -1,7 +1,8 @@
 """Arrays in fields. In another type those of integers, `bool` and `char` are read back as they are: the library has an impl for each. Others are read back as
-`OwnedArray`s, of which functions of the module make the arrays, for each type one: no generic call that may fail returns an array that it was given.
+`OwnedArray`s, of which functions of the module make the arrays, for each type one: no call for any length that may fail returns an array that may own memory,
+and a user's crate may have no impl for an array of its own type.
 
-    fn f<U: Copy, const N: usize>(x: [U; N]) -> Result<[U; N], Error> { Ok(x) }
+    fn f<const N: usize>(x: [String; N]) -> Result<[String; N], Error> { Ok(x) }
 
 So is a field that is an array itself: the check covers none that is taken out of what was read and made part of a value.
 
