@@ -235,7 +235,7 @@ def check_arrays(module: Module):
                 raise Refused(module.path, held[MOST_WITH_ARRAYS].line, said)
         for field in it.all_fields():
             type = field.type
-            if not it.as_tuple and not it.part_by_part:
+            if not it.as_tuple:
                 why = arrays.unmade(type)
                 if why:
                     raise Refused(module.path, type.line, why)

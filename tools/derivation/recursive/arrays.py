@@ -8,7 +8,7 @@ from .refusals import leads_back
 
 
 def is_array(type):
-    """Whether it is an array; of those in a recursive type each leads back."""
+    """Whether it is an array. What is here is of those that lead back; others are plain parts."""
     return type.name == "array" and type.own is None
 
 

@@ -191,6 +191,8 @@ def front_read(it, case):
         f" done = λ new m ks h. variant_read_back {write_proofs.whole_of(it, case)} _ _ _ c.requires.tag _ _ _ _ {parts_read(it, case, reads, box)};"
         f" broken = λ e r. {parts_refused(it, case, reads, last, unread)} }})"
     )
+    made = read_proofs.made_of(it, case.types[:-1], case.leads_back[:-1])
+    lets += f"rw ({made}) " if made else ""
     answers.answer("", "returns-clause-read", f"({lets}({body}))" if lets else body)
     return answers.files()
 

@@ -180,8 +180,8 @@ class Front:
 
     def __init__(self, case):
         self.is_record, self.is_row, self.is_long = case.is_record, case.is_row, case.is_long
-        self.names, self.types, self.leads_back, self.rust, self.archived, self.offsets = (
-            part[:-1] for part in (case.names, case.types, case.leads_back, case.rust, case.archived, case.offsets)
+        self.names, self.types, self.leads_back, self.rust, self.read, self.archived, self.offsets = (
+            part[:-1] for part in (case.names, case.types, case.leads_back, case.rust, case.read, case.archived, case.offsets)
         )
         self.tag, self.count = case.tag, case.count - 1
 
@@ -303,7 +303,7 @@ def head_reading(it, case):
     viewed = f"    requires viewed {{ IsPartOf ⟦<{it.archived} as ArchivePointee>⟧ part }}\n    requires tag {{ part_tag part ≡ {case.tag} }}\n"
     i, X = case.count - 1, case.archived[-1]
     where = Generic("part_of_variant", [it.archived, X], ["part", str(case.tag), str(i), str(case.offsets[i])])
-    values = f"({', '.join(case.names[:-1])})" if case.count > 1 else ""
+    values = f"({', '.join(readers.made_values(it, front(case)))})" if case.count > 1 else ""
     body = readers.parts_read(it, front(case)) + statement(4, f"let p{i} = ", where, ";")
     body += f"    Ok(ReadHead::Open({it.name}Front::{case.name}{values}, p{i}.pos))\n"
     T = f"ReadHead<{it.name}, {it.name}Front>"

@@ -8,7 +8,7 @@ from typing import List
 
 from ..formats import ALIGNS, has_shared
 from ..model import Declaration, Field, Refused, Type
-from .plain import is_shaped
+from .plain import ARRAYS, is_shaped
 from .refusals import MOST_BY_NAME, MOST_FLAT, PLAIN, recursive_in
 
 
@@ -187,7 +187,7 @@ def leads_to_described(type):
 
 def has_described(type):
     """Whether such a type is in it behind no pointer."""
-    return is_described(type) or type.own is None and type.name in ("Option", "Result", "OwnedArray") and any(map(has_described, type.args))
+    return is_described(type) or type.own is None and type.name in ("Option", "Result", *ARRAYS) and any(map(has_described, type.args))
 
 
 def layout(it, type):
@@ -205,10 +205,10 @@ def laid(it, type):
         return f"{it.word(type)}_has_layout"
     if not has_described(type):
         return "(record { solved = λ s k. refl })"
-    args = type.args[:1] if type.name == "OwnedArray" else type.args
+    args = type.args[:1] if type.name in ARRAYS else type.args
     D, X = ([getattr(it.terms, which)(arg) for arg in args] for which in ("definitions", "shape"))
     L, laws = [layout(it, arg) for arg in args], [laid(it, arg) for arg in args]
-    if type.name == "OwnedArray":
+    if type.name in ARRAYS:
         return f"(array_has_layout {type.length} {D[0]} {X[0]} {L[0]} {laws[0]})"
     aligns = [f"({ALIGNS[it.formats.layout(arg)[1]]})" for arg in args]
     return f"({type.name.lower()}_has_layout {' '.join(D + X + L + aligns + laws)})"
@@ -231,7 +231,7 @@ def reached(it, type):
         return f"(both_reached {D[0]} (both {D[1]} no_definition) {X} (no_definition_reached {X}) {value})"
     if type.name == "Result":
         return f"(result_reached {' '.join(D + Y + laws)})"
-    if type.name == "OwnedArray":
+    if type.name in ARRAYS:
         return f"(array_reaches {type.length} {D[0]} {Y[0]} {layout(it, type.args[0])} {laws[0]})"
     its = f"{D[0]} {Y[0]} {laws[0]}"
     return {"Box": f"(one_reaches {its} (one {Y[0]}) refl)", "Vec": f"(vec_reaches {its})", "BoxSlice": f"(run_reaches {its})", "Option": f"(option_reached {its})"}[type.name]

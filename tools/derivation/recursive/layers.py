@@ -22,6 +22,7 @@ class Case:
         self.names = [f"a{i}" for i in range(self.count)]
         self.binders = self.names
         self.rust = [formats.rust(type) for type in self.types]
+        self.read = [formats.rust(type) if whole.terms.leads_back(type) else formats.read_as(type) for type in self.types]  # what the parts are read back as
         self.archived = [formats.archived(type) for type in self.types]
         sizes = layout_of([formats.layout(type) for type in self.types], 0 if tag is None else 1)
         self.align, self.offsets, self.end = sizes[1:]

@@ -18,6 +18,8 @@ LEAVES = {
 }
 # Which resolvers are a leaf's own, where not all are.
 OWN_RESOLVERS = {"usize": "({x} < 2 ^ 32)", "isize": "(FitsSigned w32 {x})"}
+# Arrays as they are, and as they are read back: lists, in antt.
+ARRAYS = ("array", "OwnedArray")
 
 
 def items_of(type, x):
@@ -98,7 +100,7 @@ class Plain:
             return f"({' × '.join(args)})"
         if type.name in ("Option", "Result", "BTreeMap"):
             return f"({type.name} {' '.join(args)})"
-        return f"(List {args[0]})" if type.name == "OwnedArray" else f"({type.name} {args[0]} Global)"
+        return f"(List {args[0]})" if type.name in ARRAYS else f"({type.name} {args[0]} Global)"
 
     def shape(self, type):
         if type.own is not None and type.own.part_by_part:
@@ -185,7 +187,7 @@ class Plain:
             return its if type.name == "Vec" else f"(box {its})"
         if type.name == "BTreeMap":
             return f"(list (each_meaning (pair_meaning {' '.join(each)}) {x}.entries))"
-        heads = {"Option": "option_meaning", "Result": "result_meaning", "OwnedArray": f"array_meaning {type.length}"}
+        heads = {"Option": "option_meaning", "Result": "result_meaning", **dict.fromkeys(ARRAYS, f"array_meaning {type.length}")}
         return f"({heads[type.name]} {' '.join(each)} {x})"
 
     def keys(self, type, x):
@@ -205,7 +207,7 @@ class Plain:
             return f"(each_keys {each[0]} {items_of(type, x)})"
         if type.name == "BTreeMap":
             return f"(each_keys (pair_keys {' '.join(each)}) {x}.entries)"
-        heads = {"Option": "option_keys", "Result": "result_keys", "OwnedArray": f"array_keys {type.length}"}
+        heads = {"Option": "option_keys", "Result": "result_keys", **dict.fromkeys(ARRAYS, f"array_keys {type.length}")}
         return f"({heads[type.name]} {' '.join(each)} {x})"
 
     def flat(self, type, x, r):
@@ -227,7 +229,7 @@ class Plain:
         if type.name == "BTreeMap":
             return f"(map_flat {self.key(type)} {self.shape(type.args[1])} (btree_map_len {x}) {r})"
         each = [self.as_two("flat", arg) for arg in type.args]
-        if type.name == "OwnedArray":
+        if type.name in ARRAYS:
             return f"(list (each_flat {each[0]} {x} {r}.kept.items))"
         return f"({'option_flat' if type.name == 'Option' else 'result_flat'} {' '.join(each)} {x} {r})"
 
@@ -252,7 +254,7 @@ class Plain:
         if type.name == "BTreeMap":
             return f"(btree_map_len {x} ≤ 4294967295)"
         each = [self.as_two("belongs", arg) for arg in type.args]
-        if type.name == "OwnedArray":
+        if type.name in ARRAYS:
             return f"(EachBelongs {each[0]} {x} {r}.kept.items)"
         return f"({'OptionBelongs' if type.name == 'Option' else 'ResultBelongs'} {' '.join(each)} {x} {r})"
 
@@ -277,7 +279,7 @@ class Plain:
             return its if type.name == "Vec" else f"(box_keyed _ _ {its})"
         if type.name == "BTreeMap":
             return f"(pairs_keyed {said} {x}.entries)"
-        heads = {"Option": "option_keyed", "Result": "result_keyed", "OwnedArray": f"array_keyed {type.length}"}
+        heads = {"Option": "option_keyed", "Result": "result_keyed", **dict.fromkeys(ARRAYS, f"array_keyed {type.length}")}
         return f"({heads[type.name]} {said} {x})"
 
     def planned(self, type, x):

@@ -165,7 +165,7 @@ def words_of(it, case):
     for type, back in zip(case.types, case.leads_back):
         if it.terms.is_row(type):
             out += words_of(it, it.row(type))
-        elif arrays.is_array(type):
+        elif back and arrays.is_array(type):
             out.append(f"serialize_each_{it.word(type.args[0])}")
         else:
             out.append(f"serialize_{it.word(type)}" if back else "serialize_part")

@@ -1,7 +1,9 @@
 """Proofs that recursive types are read back as they say."""
 
 from . import map_proofs, slices, weak
+from ..arrays import is_made
 from ..common import numbered
+from .arrays import is_array
 from .holders import laid
 from .reads import Reads, skips_none
 from . import write_proofs
@@ -226,6 +228,12 @@ def signed_values(values):
     return f"{out}rw ({', '.join(steps)}) " if steps else ""
 
 
+def made_of(it, types, leads_back):
+    """What is known of the calls that make arrays, or what has some, of what was read in their places."""
+    calls = ["array_of" if back else it.formats.arrays.called(type) for type, back in zip(types, leads_back) if (is_array(type) if back else is_made(type))]
+    return ", ".join(f"c.{call}.ensures" for call in numbered(calls))
+
+
 def parts_read(it, case, answers, function):
     """The answers on parts that are read one after another."""
     where = "part_of_record" if case.is_record else "part_of_variant"
@@ -270,6 +278,6 @@ def parts_read(it, case, answers, function):
         its = f"(variant_read_back {write_proofs.whole_of(it, case)} _ _ _ {first}_ _ _ _ {read()})"
         body = its if it.is_holder else f"read_as ({case.n}_has_keys{those}) ({case.n}_means{those}) {its}"
     lets = signed_values(zip(case.types, case.names, values))
-    made = ", ".join(f"c.{call}.ensures" for call in numbered(["array_of"] * len(proofs.wholes_of(case))))
+    made = made_of(it, case.types, case.leads_back)
     lets += f"rw ({made}) " if made else ""
     answers.answer(function, "returns-clause-read", f"({lets}({body}))" if lets else body)

@@ -86,7 +86,7 @@ def owner_reading(it, type):
     levels = "levels, " if it.family.shares else ""
     if type.name == "tuple":
         row = it.row(type)
-        body = parts_read(it, row) + statement(4, "Ok(", Group("(", row.names, ")"), ")")
+        body = parts_read(it, row) + statement(4, "Ok(", Group("(", made_values(it, row), ")"), ")")
     elif arrays.is_array(type):
         T = f"Vec<{it.formats.rust(item)}>"
         return reader(it, it.word(type), T, arrays.read_contract(it, type), arrays.reading(it, type), "Reads the elements of an array back.", inlined=frames.of_owner(it, type))
@@ -170,7 +170,7 @@ def none_reading(it, type):
 
 def parts_read(it, case):
     lines = ""
-    for i, (name, type, back, T, offset) in enumerate(zip(case.names, case.types, case.leads_back, case.rust, case.offsets)):
+    for i, (name, type, back, T, offset) in enumerate(zip(case.names, case.types, case.leads_back, case.read, case.offsets)):
         X = code.inside(it, type)
         if case.is_record:
             where = Generic("part_of_record", [it.row_name(case.tuple) if case.is_row else it.archived, X], ["part", str(i), str(offset)])
@@ -184,12 +184,21 @@ def parts_read(it, case):
 
 
 def built(it, case):
-    names = [f"array_of({name})" if back and arrays.is_array(type) else name for name, type, back in zip(case.names, case.types, case.leads_back)]
+    names = made_values(it, case)
     if it.is_record:
         if case.form == "tuple":
             return Group(f"{it.name}(", names, ")")
         return literal(it.name, [f"{field.name}: {name}" for field, name in zip(case.fields, names)])
     return resolvers.pattern(it, case, names)
+
+
+def made_values(it, case):
+    """The parts, of what was read in their places: of an array that leads back its elements."""
+    values = []
+    for name, type, back in zip(case.names, case.types, case.leads_back):
+        value = f"array_of({name})" if arrays.is_array(type) else name
+        values.append(value if back else it.formats.arrays.value(type, name))
+    return values
 
 
 def case_reading(it, case):

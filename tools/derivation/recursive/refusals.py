@@ -7,7 +7,7 @@ from ..model import Declaration, Refused, Type
 from .plain import LEAVES, has_boxed, is_shaped
 
 # What plain parts may be made of, which a recursive type has beside those that lead back to it.
-PLAIN = set(LEAVES) | {"String", "BoxStr", "NonZero", "Option", "Result", "Box", "BoxSlice", "Vec", "BTreeMap", "OwnedArray"}
+PLAIN = set(LEAVES) | {"String", "BoxStr", "NonZero", "Option", "Result", "Box", "BoxSlice", "Vec", "BTreeMap", "OwnedArray", "array"}
 # Those of a type that is recursive alone and shares nothing; and of a struct whose other fields are made of no others.
 MOST_FIELDS = 9
 MOST_FLAT = 12

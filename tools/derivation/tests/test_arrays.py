@@ -1,5 +1,7 @@
 """Arrays in other types: those of integers, `bool` and `char` are read back as they are, others as `OwnedArray`s, of which functions of the module make them."""
 
+import os
+
 from derivation import write
 
 from .repository import RepositoryTest
@@ -86,6 +88,47 @@ class ArraysWithin(RepositoryTest):
         self.assertEqual(self.run_command("--check", path), (0, ""))
 
 
+class OtherForms(RepositoryTest):
+    """Arrays in recursive types, and in those around one."""
+
+    def written(self, text):
+        path = self.put(f"use archive_core::rc::Shared;\n{text}")
+        self.assertEqual(self.run_command(path), (0, ""))
+        self.assertEqual(self.run_command("--check", path), (0, ""))
+        return bare(self.text(path))
+
+    def beside(self, *path):
+        return bare(self.text(os.path.join(self.top, "crates", "game", *path)))
+
+    def test_in_a_recursive_struct(self):
+        text = self.written("#[derive(Drop)]\nstruct Tree { key: [u32; 4], names: [String; 2], maybe: Option<[u8; 3]>, below: Vec<Tree> }\n")
+        self.assertIn("matchread_part::<[ArchivedU32;4],OwnedArray<u32,4>,D>(alloc,p0,deserializer)", text)
+        self.assertIn("matchread_part::<ArchivedOption<[u8;3]>,Option<[u8;3]>,D>(alloc,p2,deserializer)", text)
+        self.assertIn("Tree{key:a0.into_array(),names:a1.into_array(),maybe:a2,below:a3}", text)
+        self.assertIn("(array_meaning4(λy.(number(posy)))t.key)", self.beside("specs", "TreeMeaning.antt"))
+        self.assertIn("rw(c.into_array.ensures,c.into_array-2.ensures)", self.beside("proofs", "types", "+read_tree", "Answers.antt"))
+
+    def test_in_the_variants_of_a_recursive_enum(self):
+        text = self.written("#[derive(Drop)]\nenum Tone { Colour([u8; 3]), Named(Option<[String; 2]>), Add(Box<Tone>, Box<Tone>) }\n")
+        self.assertIn("Tone::Colour(a0.into_array())", text)
+        self.assertIn("Tone::Named(made_option_array2_string(a0))", text)
+        self.assertIn("rw(c.made_option_array2_string.ensures)", self.beside("proofs", "types", "read_tone_named", "Answers.antt"))
+
+    def test_in_a_list_and_in_a_tuple_that_leads_back(self):
+        text = self.written("enum List { Nil, Cons([u32; 2], u8, Box<List>) }\n#[derive(Drop)]\nstruct Rows { x: Vec<([u8; 2], Rows)> }\n")
+        self.assertIn("ListFront::Cons(a0.into_array(),a1)", text)
+        self.assertIn("Ok((a0.into_array(),a1))", text)
+        self.assertIn("rw(c.into_array.ensures)", self.beside("proofs", "types", "read_list_cons", "Answers.antt"))
+
+    def test_around_a_recursive_type(self):
+        text = self.written("#[derive(Drop)]\nstruct Tree { below: Vec<Tree> }\nstruct A { x: [u8; 4], tree: Tree }\n")
+        self.assertIn("A{x:a0.into_array(),tree:a1}", text)
+
+    def test_what_is_behind_a_pointer_there(self):
+        said = "an array of `String` in `Vec` is read back as an `OwnedArray`; write `OwnedArray<String, 2>`, of `archive_core::core_impls`"
+        self.assertEqual(self.refusal("#[derive(Drop)]\nstruct Tree { below: Vec<Tree>,\nx: Vec<[String; 2]> }\n"), f"3: {said}")
+
+
 class Refused(RepositoryTest):
     def refused(self, type):
         said = self.refusal(f"use archive_core::core_impls::OwnedArray;\nuse archive_core::rc::Shared;\nstruct P<T> {{ x: T }}\nstruct A {{ y: {type} }}\n")
@@ -117,7 +160,8 @@ class Refused(RepositoryTest):
     def test_an_array_behind_a_pointer_in_a_type_that_is_written_otherwise(self):
         said = self.refusal("struct A<T> { x: T, y: Vec<[u8; 4]> }\n")
         self.assertIn("an array behind a pointer in a type with type parameters isn't proved; put `[u8; 4]` into a struct of its own", said)
-        said = self.refusal("enum R { X(u8), Y(Box<R>) }\nstruct A { x: R, y: Vec<[u8; 4]> }\n")
+        web = "use archive_core::rc::Shared;\nstruct Web { x: u8, next: Vec<Shared<Web>> }\n"
+        said = self.refusal(f"{web}struct A {{ web: Web, y: Vec<[u8; 4]> }}\n")
         self.assertIn("an array behind a pointer in a type with a recursive type isn't proved; put `[u8; 4]` into a struct of its own", said)
 
     def test_an_array_in_the_arguments_of_a_struct(self):
