@@ -7,7 +7,7 @@ and a user's crate may have no impl for an array of its own type.
 So is a field that is an array itself: the check covers none that is taken out of what was read and made part of a value.
 
 What an `Option`, a `Result`, a tuple or an array holds goes from one to the other as it is, so these functions return just what they were given. What is behind
-a pointer would take memory anew, so it isn't made.
+a pointer takes memory anew: behind.py makes it where a field is a vector or a box of such arrays, or an option of one.
 """
 
 from dataclasses import replace
@@ -41,6 +41,19 @@ def is_made(type):
     return is_array(type) or is_remade(type)
 
 
+def is_behind(type):
+    """Whether a field of this type is a vector or a box of arrays that aren't read back as they are, or an option of one: it is read back as a type of the module."""
+    inner = type.args[0] if type.own is None and type.name == "Option" else type
+    if inner.own is not None or inner.name not in ("Box", "Vec") or has_parameter(type):
+        return False
+    return is_remade(inner.args[0]) and not unmade(inner.args[0], False)
+
+
+def back_of(type):
+    """The name of that type of the module."""
+    return "".join(part[:1].upper() + part[1:] for part in words(type).split("_")) + "Back"
+
+
 def within(type):
     """What a type within another one is read back as."""
     if not is_remade(type):
@@ -51,12 +64,14 @@ def within(type):
 
 def as_read(type):
     """What a field is read back as."""
+    if is_behind(type):
+        return replace(type, name=back_of(type), args=[], text="")
     return replace(type, name="OwnedArray", args=[within(type.args[0])], text="") if is_array(type) else within(type)
 
 
-def unmade(type):
-    """Why an array in a field of this type isn't made of what is read back, if so."""
-    if type.parameter or type.name == "PhantomData":
+def unmade(type, behind=True):
+    """Why an array in a field of this type isn't made of what is read back, if so; `behind` tells whether one behind a pointer is."""
+    if type.parameter or type.name == "PhantomData" or behind and is_behind(type):
         return None
     of_parameter = array_of_parameter(type)
     if of_parameter:
@@ -72,7 +87,7 @@ def unmade(type):
         array = made_in(type.args[0]) if is_long else made_in(type)
         item, where = array.args[0].text, f"more than {MOST_APART} others" if is_long else f"`{type.name}`"
         return f"an array of `{item}` in {where} is read back as an `OwnedArray`; write `OwnedArray<{item}, {array.length}>`, of `archive_core::core_impls`"
-    return next((why for arg in type.args if (why := unmade(arg))), None)
+    return next((why for arg in type.args if (why := unmade(arg, False))), None)
 
 
 def holds(type):
@@ -134,10 +149,23 @@ class Arrays:
 
     def value(self, type, name):
         """A value of this type, of what was read back under this name."""
+        if is_behind(type):
+            self.behind(type)
+            return f"{name}.value"
         if not is_made(type):
             return name
         call = self.called(type)
         return f"{name}.into_array()" if call == "into_array" else f"{call}({name})"
+
+    def behind(self, type):
+        """Adds the type that is read back in the place of such a field, and the function that makes its value."""
+        from .behind import Behind
+
+        its = Behind(self.formats, type)
+        if its.name not in self.texts:
+            self.texts[its.name] = ""
+            self.texts[its.call] = its.making()
+            self.texts[its.name] = its.text()
 
     def text(self, name, type):
         spelled = self.formats.spelled

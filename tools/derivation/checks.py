@@ -238,7 +238,7 @@ def check_arrays(module: Module):
                 said = f"{len(held)} fields have an array behind a pointer, and {MOST_WITH_ARRAYS} are the most; put some into a struct of their own"
                 raise Refused(module.path, held[MOST_WITH_ARRAYS].line, said)
         for field in it.all_fields():
-            why = arrays.unmade(field.type)
+            why = arrays.unmade(field.type, not it.part_by_part)
             if why:
                 raise Refused(module.path, field.type.line, why)
 

@@ -1,7 +1,7 @@
 """Values of many fields, which a function of their own makes of those of their fields, with a proof that is written beside the module."""
 
 from . import blocks
-from .arrays import has_array, is_made
+from .arrays import has_array, is_behind, is_made
 from .common import chain, infix, numbered
 from .layout import pair, statement
 from .long import names_of, place, places
@@ -76,7 +76,7 @@ fn {self.name}(values: {self.owned}) -> {self.of}
             return None
         widths = sorted({width for width, _ in signed})
         lets = "".join(f"    let e{i} : SFits {width} {value} = search rules in\n" for i, (width, value) in enumerate(signed))
-        arrays = [f"c.{call}.ensures" for call in numbered([self.formats.arrays.called(type) for type in self.types if is_made(type)])]
+        arrays = [f"c.{call}.ensures" for call in numbered([self.formats.arrays.called(type) for type in self.types if is_made(type) and not is_behind(type)])]
         steps = ", ".join(arrays + [f"to_z-of_z {width} {value} e{i}" for i, (width, value) in enumerate(signed)])
         return f"""-- {WRITTEN}
 use Rattle.std.proofs.Common.{{◌≡◌, refl, arith, rules}}

@@ -7,7 +7,7 @@ end, or are too many"). Shapes have no names, so no two definitions clash.
 
 import re
 
-from . import generics, records, texts, variants
+from . import behind, generics, records, texts, variants
 from .recursive import layers
 from .formats import USERS, Formats
 from .layout import use
@@ -31,6 +31,7 @@ def proofs(module):
             its = records if declaration.kind == "struct" else variants
             out.update(its.proofs(formats, declaration))
     out.update(layers.files(module))
+    out.update(behind.proofs(formats, module))
     return out
 
 

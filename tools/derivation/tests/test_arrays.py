@@ -88,6 +88,48 @@ class ArraysWithin(RepositoryTest):
         self.assertEqual(self.run_command("--check", path), (0, ""))
 
 
+class Behind(RepositoryTest):
+    """Vectors and boxes of arrays that aren't read back as they are: a type of the module is read back in their place."""
+
+    SPOT = "#[derive(Clone, Copy)]\nstruct Spot { x: u8 }\n"
+
+    def written(self, text):
+        path = self.put(text)
+        self.assertEqual(self.run_command(path), (0, ""))
+        self.assertEqual(self.run_command("--check", path), (0, ""))
+        return bare(self.text(path))
+
+    def test_a_vector(self):
+        text = self.written(f"{self.SPOT}struct A {{ x: Vec<[Spot; 3]>, y: u8 }}\n")
+        self.assertIn("typeAOwned=(VecArray3SpotBack,(u8,()));", text)
+        self.assertIn("pubstructVecArray3SpotBack{value:Vec<[Spot;3]>}", text)
+        self.assertIn("impl<D:Entries>Deserialize<VecArray3SpotBack,D>forArchivedVec<[ArchivedSpot;3]>{", text)
+        self.assertIn("letread=<SelfasDeserialize<Vec<OwnedArray<Spot,3>>,D>>::deserialize_part(alloc,part,deserializer);", text)
+        self.assertIn("foriteminread{value.push_reserved(item.into_array());}", text)
+        self.assertIn("A{x:a0.value,y:a1}", text)
+        self.assertIn("TheImpl.Laws.{keyed-lawaskeyed_of_spot,planned-lawasplanned_of_spot};typeArchived=ArchivedVec<[ArchivedSpot;3]>;", text)
+        self.assertIn("requireszeroed{ZeroedPlace8place.pos", text)
+        path = os.path.join(self.top, "crates", "game", "proofs", "types", "made_vec_array3_spot", "Invariants.antt")
+        self.assertIn("(l.value.items ++ l.item-iterator.rest.items ≡ l.fn.read.items)", self.text(path))
+
+    def test_a_box_and_an_option(self):
+        text = self.written("enum A { X, Y(Option<Box<[String; 2]>>, u8), Z(Option<Vec<Option<[String; 2]>>>) }\n")
+        self.assertIn("fnmade_box_array2_string(alloc:Global,read:Box<OwnedArray<String,2>>)->Result<Box<[String;2]>,Error>", text)
+        self.assertIn("{letvalue=Box::new(alloc,Box::into_inner(read).into_array())?;Ok(value)}", text)
+        self.assertIn("{matchread{None=>Ok(None),Some(read)=>matchmade_box_array2_string(alloc,read){Ok(made)=>Ok(Some(made)),Err(error)=>Err(error)}}}", text)
+        self.assertNotIn("BoxArray2StringBack{value}", text.replace("OptionBoxArray2StringBack", ""))
+        self.assertIn("value.push_reserved(made_option_array2_string(item));", text)
+        self.assertIn("A::Y(a0.value,a1)", text)
+
+    def test_one_type_for_equal_fields(self):
+        text = self.written("struct A { x: Vec<[String; 2]> }\nenum B { X(Vec<[String; 2]>), Y(u8) }\nstruct C<T> { t: T, x: Vec<[String; 2]> }\n")
+        self.assertEqual(text.count("structVecArray2StringBack{"), 1)
+        self.assertIn("typeOwned=(T,(VecArray2StringBack,()));", text)
+
+    def test_numbers_are_read_back_as_they_are(self):
+        self.assertNotIn("Back{", self.written("struct A { x: Vec<[u8; 3]>, y: Option<Box<[char; 2]>> }\n"))
+
+
 class OtherForms(RepositoryTest):
     """Arrays in types with type parameters, and in recursive types and those around one."""
 
@@ -143,19 +185,20 @@ class OtherForms(RepositoryTest):
 
     def test_what_is_behind_a_pointer_there(self):
         said = "an array of `String` in `Vec` is read back as an `OwnedArray`; write `OwnedArray<String, 2>`, of `archive_core::core_impls`"
-        for text in ("#[derive(Drop)]\nstruct Tree { below: Vec<Tree>,\nx: Vec<[String; 2]> }\n", "struct A<T> { t: T,\n\nx: Vec<[String; 2]> }\n"):
-            self.assertEqual(self.refusal(text), f"3: {said}")
+        self.assertEqual(self.refusal("#[derive(Drop)]\nstruct Tree { below: Vec<Tree>,\nx: Vec<[String; 2]> }\n"), f"3: {said}")
 
 
 class Refused(RepositoryTest):
     def refused(self, type):
-        said = self.refusal(f"use archive_core::core_impls::OwnedArray;\nuse archive_core::rc::Shared;\nstruct P<T> {{ x: T }}\nstruct A {{ y: {type} }}\n")
+        said = self.refusal(f"use archive_core::core_impls::OwnedArray;\nuse archive_core::{{boxed::BoxSlice, rc::Shared}};\nstruct P<T> {{ x: T }}\nstruct A {{ y: {type} }}\n")
         return said.removeprefix("4: ")
 
     def test_an_array_of_others_behind_a_pointer(self):
         for type, name, item in (
-            ("Vec<[String; 4]>", "Vec", "String"),
-            ("Option<Box<[Option<u8>; 4]>>", "Box", "Option<u8>"),
+            ("(u8, Vec<[String; 4]>)", "Vec", "String"),
+            ("Vec<Vec<[Option<u8>; 4]>>", "Vec", "Option<u8>"),
+            ("Option<Option<Box<[Option<u8>; 4]>>>", "Box", "Option<u8>"),
+            ("BoxSlice<[String; 4]>", "BoxSlice", "String"),
             ("[Vec<[[u8; 2]; 4]>; 2]", "Vec", "[u8; 2]"),
             ("Shared<Option<[String; 4]>>", "Shared", "String"),
             ("OwnedArray<[String; 4], 2>", "OwnedArray", "String"),
