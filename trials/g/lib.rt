@@ -1,0 +1,4 @@
+//! Trials.
+#![tactic(auto)]
+
+pub mod pair;

@@ -1,0 +1,6 @@
+//! Trials.
+#![tactic(auto)]
+
+pub mod holder;
+pub mod spot;
+
