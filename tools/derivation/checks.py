@@ -159,18 +159,8 @@ def check_long(module: Module, fields: List[Field]):
             raise Refused(module.path, field.type.line, "an `isize` beside so many fields of a variant isn't proved; write an `i32` or an `i64`")
 
 
-def check_with_fields(module: Module, it: Declaration):
-    """Refuses the first variant with fields that is one too many."""
-    with_fields = [v for v in it.variants if v.fields]
-    if it.part_by_part or len(with_fields) <= read.MOST_WITH_FIELDS:
-        return
-    said = f"`{it.name}` has {len(with_fields)} variants with fields, and {read.MOST_WITH_FIELDS} are the most; put some into an enum of another file"
-    raise Refused(module.path, with_fields[read.MOST_WITH_FIELDS].line, said)
-
-
 def check_variants(module: Module, loads: Loads, it: Declaration):
     """Refuses the first variant with which there is too much. Those of enums that neither are recursive nor hold a recursive type go in blocks."""
-    check_with_fields(module, it)
     types = []
     for v in it.variants if it.part_by_part else []:
         fields = [field.type for field in v.fields]

@@ -26,9 +26,8 @@ Fields: whole numbers, `bool`, `char`, `()`, `String`, `Option`, `Result`, `Box`
 keys that are whole numbers, `char` or `String`; of the library `BoxSlice`, `BoxStr`, `OwnedArray`, `NonZero` (and `ArchivedNonZeroU8` ..), `Shared`,
 `SharedSlice`, `SharedStr`, `WeakShared`; and other types that this command wrote, of any module or crate of the repository. A struct has
 up to {read.MOST_FIELDS} fields, each variant of an enum of several {read.MOST_OF_VARIANT}, of deep types fewer, a recursive struct {MOST_OF_RECURSIVE}, in a family or a graph {MOST_BY_NAME}, a struct that
-holds a recursive type {read.MOST_FEW}, or beside numbers and texts {MOST_FLAT}. An enum has up to {read.MOST_VARIANTS} variants, {read.MOST_BESIDE_FIELDS} if one has fields, {read.MOST_WITH_FIELDS} with fields, a recursive one or one that
-holds a recursive type 59:
-the command counts what the toolchain takes at once, and tells which field or variant is too much.
+holds a recursive type {read.MOST_FEW}, or beside numbers and texts {MOST_FLAT}. An enum has up to {read.MOST_VARIANTS} variants, {read.MOST_BESIDE_FIELDS} if one has fields, a recursive one or one that
+holds a recursive type 59: the command counts what the toolchain takes at once, and tells which field or variant is too much.
 
 Views are compared and hashed as the values that they show if the type derives `Eq`, `PartialOrd`, `Ord` or `Hash` and all fields can be.
 

@@ -1,11 +1,10 @@
 """Enums of many variants: their nests are cut, and each variant is in one of them, in the order of the tags."""
 
 import re
-from unittest import mock
 
 from derivation import variant_blocks
 from derivation.loads import MOST_OF_VARIANTS, Loads
-from derivation.read import MOST_BESIDE_FIELDS, MOST_WITH_FIELDS
+from derivation.read import MOST_BESIDE_FIELDS
 
 from .repository import RepositoryTest
 
@@ -13,40 +12,26 @@ from .repository import RepositoryTest
 class VariantBlocks(RepositoryTest):
     def written(self, declared):
         path = self.put(declared)
-        with mock.patch("derivation.read.MOST_WITH_FIELDS", 256):
-            self.assertEqual(self.run_command(path), (0, ""))
+        self.assertEqual(self.run_command(path), (0, ""))
         return self.text(path)
 
-    def test_as_many_variants_have_fields_as_are_proved(self):
-        for count, status in ((MOST_WITH_FIELDS, 0), (MOST_WITH_FIELDS + 1, 2)):
-            path = self.put(f"pub enum A {{ {', '.join(f'V{i}(u8)' for i in range(count))} }}")
-            self.assertEqual(self.run_command(path)[0], status)
-        said = f"types.rt:1: `A` has {MOST_WITH_FIELDS + 1} variants with fields, and {MOST_WITH_FIELDS} are the most; put some into an enum of another file"
-        self.assertIn(said, self.run_command(path)[1])
-
-    def test_as_many_beside_any_number_of_others(self):
-        for units in (1, MOST_BESIDE_FIELDS - MOST_WITH_FIELDS - 1):
-            with self.subTest(units):
-                declared = ", ".join([f"U{i}" for i in range(units)] + [f"V{i}(u8)" for i in range(MOST_WITH_FIELDS)])
-                self.assertEqual(self.run_command(self.put(f"pub enum A {{ {declared} }}"))[0], 0)
-                said = f"1: `A` has {MOST_WITH_FIELDS + 1} variants with fields, and {MOST_WITH_FIELDS} are the most; put some into an enum of another file"
-                self.assertEqual(self.refusal(f"pub enum A {{ {declared}, W(u8) }}"), said)
-
     def test_as_many_of_what_is_shared_or_long_or_has_parameters(self):
-        fields = [f"V{i}(u8)" for i in range(MOST_WITH_FIELDS - 1)]
+        fields = [f"V{i}(u8)" for i in range(MOST_BESIDE_FIELDS - 1)]
         shared = "use archive_core::rc::SharedStr;\npub struct B { x: Vec<SharedStr> }\n"
         for head, name, last, alias in (
+            ("", "A", "W(u8)", ""),
+            ("", "A", "U", ""),
             (shared, "A", "W(B)", ""),
             ("", "A", f"W({', '.join(['u8'] * 9)})", ""),
             ("", "E<T>", "W(T)", "\npub type A = E<u8>;"),
         ):
-            for more, status in (([], 0), (["X(u8)"], 2)):
-                with self.subTest(name + last, status=status):
-                    path = self.put(f"{head}pub enum {name} {{ {', '.join(fields + [last] + more)} }}{alias}")
-                    found, said = self.run_command(path)
-                    self.assertEqual(found, status)
-                    if more:
-                        self.assertIn(f"has {MOST_WITH_FIELDS + 1} variants with fields, and {MOST_WITH_FIELDS} are the most; put some", said)
+            with self.subTest(name + last):
+                path = self.put(f"{head}pub enum {name} {{ {', '.join(fields + [last])} }}{alias}")
+                self.assertEqual(self.run_command(path), (0, ""))
+                path = self.put(f"{head}pub enum {name} {{ {', '.join(fields + [last, 'X(u8)'])} }}{alias}")
+                status, said = self.run_command(path)
+                self.assertEqual(status, 2)
+                self.assertIn(f"has {MOST_BESIDE_FIELDS + 1} variants, and {MOST_BESIDE_FIELDS} are the most where one has fields; put some", said)
 
     def test_fewer_variants_where_one_has_fields(self):
         units = [f"U{i}" for i in range(MOST_BESIDE_FIELDS - 1)]

@@ -2,7 +2,6 @@
 
 import os
 import re
-from unittest import mock
 
 from derivation.variant_functions import MOST_AT_ONCE, MOST_AT_ONCE_OTHERS
 
@@ -12,8 +11,7 @@ from .repository import RepositoryTest
 class VariantFunctions(RepositoryTest):
     def written(self, variants):
         self.file = self.put(f"pub enum A {{ {', '.join(variants)} }}")
-        with mock.patch("derivation.read.MOST_WITH_FIELDS", 256):
-            self.assertEqual(self.run_command(self.file), (0, ""))
+        self.assertEqual(self.run_command(self.file), (0, ""))
         return self.text(self.file)
 
     def functions(self, text, which):

@@ -1,7 +1,6 @@
 """Enums of more variants than one body calls the functions of: their calls go in groups."""
 
 import re
-from unittest import mock
 
 from derivation.variant_groups import MOST_IN_BODY, MOST_IN_GROUP
 
@@ -11,8 +10,7 @@ from .repository import RepositoryTest
 class VariantGroups(RepositoryTest):
     def written(self, count, more=()):
         self.file = self.put(f"pub enum A {{ {', '.join([f'V{i}(u8)' for i in range(count)] + list(more))} }}")
-        with mock.patch("derivation.read.MOST_WITH_FIELDS", 256):
-            self.assertEqual(self.run_command(self.file), (0, ""))
+        self.assertEqual(self.run_command(self.file), (0, ""))
         return self.text(self.file)
 
     def bodies(self, text, which):
