@@ -1,0 +1,2 @@
+pub mod ExprMeaning
+pub mod ExprShape

@@ -1,0 +1,2 @@
+pub mod ListMeaning
+pub mod ListShape

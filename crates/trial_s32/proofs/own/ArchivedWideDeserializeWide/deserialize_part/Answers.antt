@@ -1,0 +1,9 @@
+-- Written by tools/derive: change the declaration, and run it again.
+use Rattle.std.proofs.Common.{rules}
+use Rattle.trial_s32.proofs.own.ArchivedWideDeserializeWide.deserialize_part.Goals as goal
+
+pub returns-in-Ok : goal.returns-in-Ok
+returns-in-Ok g c = record {
+  read = rw (c.wide_of.ensures.meaning, c.wide_of.ensures.keys) c.in-Ok.ensures.read;
+  refused = search rules;
+}

@@ -1,0 +1,2 @@
+pub mod TreeMeaning
+pub mod TreeShape

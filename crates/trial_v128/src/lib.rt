@@ -1,0 +1,7 @@
+//! A trial.
+#![tactic(auto)]
+
+pub mod many;
+
+#[cfg(test)]
+mod tests;

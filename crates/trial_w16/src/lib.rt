@@ -1,0 +1,7 @@
+//! A trial.
+#![tactic(auto)]
+
+pub mod own;
+
+#[cfg(test)]
+mod tests;
