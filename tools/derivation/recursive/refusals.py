@@ -101,14 +101,16 @@ def check_part(it: Declaration, type: Type, line: int):
 
 
 def check_plain(it: Declaration, type: Type, line: int, behind: bool = False):
-    """What leads to no value of the type. A tuple is behind a vector's pointer: else the check doesn't finish what the type's own impls make of its layout."""
+    """What leads to no value of the type. A tuple is behind a vector's pointer: else the check doesn't finish what the type's own impls make of its layout. An array beside
+    a shared pointer isn't proved to be read back."""
     if type.own is not None and not type.args:
         if not is_shaped(type, it.path):
             raise Refused(it.path, line, f"`{type.own.name}` has fields that tools/derive doesn't write beside the recursive `{it.name}`; move it to another file")
         return
     if is_named(type, "tuple") and not behind:
         raise Refused(it.path, line, f"a plain tuple in the recursive `{it.name}` is written in a `Vec` alone; write a struct of another file, or its parts as fields")
-    if type.own is not None or type.name not in PLAIN | {"tuple"}:
+    is_shared_array = is_named(type, "array") and any(has_shared(field.type, it.family) for field in it.all_fields())
+    if type.own is not None or type.name not in PLAIN | {"tuple"} or is_shared_array:
         raise Refused(it.path, line, f"this field of the recursive `{it.name}` is of a type that tools/derive doesn't write there; put it into a struct of another file")
     for arg in type.args:
         check_plain(it, arg, line, behind or type.name == "Vec")

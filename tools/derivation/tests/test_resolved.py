@@ -47,7 +47,11 @@ class Resolved(RepositoryTest):
         self.assertIn("rw (w.in-Closed.is, w.in-Closed-resolver.is, way_closed_opens w.in-Closed.a0, w.bytes-is, w.result-is)", self.answers("Way"))
 
     def test_no_array_where_a_variant_without_fields_lets_go_of_memory(self):
-        oak = OAK.replace("Leaf", "Leaf, Key([u8; 2])")
+        oak = "use archive_core::core_impls::OwnedArray;\n" + OAK.replace("Leaf", "Leaf, Key(OwnedArray<u8, 2>)")
         said = "an array isn't proved in the recursive `Oak`, which has a vector of shared pointers and a variant without fields"
-        self.assertEqual(self.refusal(oak), f"3: {said}; put it into a `Box`, in a struct of another file")
+        self.assertEqual(self.refusal(oak), f"4: {said}; put it into a `Box`, in a struct of another file")
         self.assertEqual(self.run_command(self.put(oak.replace("Leaf,", "Leaf(u8),"))), (0, ""))
+
+    def test_no_array_beside_a_shared_pointer(self):
+        knot = "use archive_core::rc::Shared;\n#[derive(Drop)]\npub struct Knot { at: [i32; 2], next: Vec<Shared<Knot>> }\n"
+        self.assertEqual(self.refusal(knot), "3: this field of the recursive `Knot` is of a type that tools/derive doesn't write there; put it into a struct of another file")
