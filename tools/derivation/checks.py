@@ -1,6 +1,6 @@
 """What is refused of declarations that were read."""
 
-from typing import Callable, Dict, List, Optional, Sequence
+from typing import Callable, Dict, List, Optional, Sequence, Set
 
 from . import arrays
 from .formats import POINTERS, snake, substituted
@@ -222,15 +222,11 @@ MOST_WITH_ARRAYS = 3
 
 def pointer_to_array(type: Type) -> Optional[Type]:
     """The pointer in a type behind which an array is."""
-    return found_in(type, lambda x: x.own is None and x.name in POINTERS and found_in(x, is_array))
-
-
-def is_array(type: Type) -> bool:
-    return type.own is None and type.name in ("array", "OwnedArray")
+    return found_in(type, lambda x: x.own is None and x.name in POINTERS and array_in(x, {"array", "OwnedArray"}))
 
 
 def check_arrays(module: Module):
-    """Refuses arrays that aren't made of what is read back, and too many behind pointers."""
+    """Refuses arrays that aren't made of what is read back, and those in structs and types whose clauses don't tell of them."""
     for it in module.declarations:
         for fields in [it.fields] + [v.fields for v in it.variants]:
             held = [field for field in fields if pointer_to_array(field.type)]
@@ -238,9 +234,26 @@ def check_arrays(module: Module):
                 said = f"{len(held)} fields have an array behind a pointer, and {MOST_WITH_ARRAYS} are the most; put some into a struct of their own"
                 raise Refused(module.path, held[MOST_WITH_ARRAYS].line, said)
         for field in it.all_fields():
-            why = arrays.unmade(field.type)
-            if why:
-                raise Refused(module.path, field.type.line, why)
+            type = field.type
+            if not it.as_tuple:
+                why = arrays.unmade(type)
+                if why:
+                    raise Refused(module.path, type.line, why)
+                continue
+            pointer = pointer_to_array(type)
+            if pointer:
+                array = array_in(pointer, {"array", "OwnedArray"})
+                where = "with type parameters" if it.parameters else "with a recursive type"
+                raise Refused(module.path, type.line, f"an array behind a pointer in a type {where} isn't proved; put `{array.text}` into a struct of its own")
+            is_array = type.name == "array" and type.own is None
+            inner = unreturned(type.args[0], True) if is_array else unreturned(type)
+            if inner:
+                it_is = f"OwnedArray<{inner.args[0].text}, {inner.length}>"
+                raise Refused(module.path, type.line, f"an array in another type is read back as an `OwnedArray`; write `{it_is}`, of `archive_core::core_impls`")
+            held = array_in(type, {"array", "OwnedArray"})
+            if held and it.as_tuple:
+                where = "with type parameters" if it.parameters else "that holds a recursive type"
+                raise Refused(module.path, type.line, f"an array in a struct {where} isn't proved; write a `Vec` in place of `{held.text}`")
 
 
 def check_seen(module: Module):
@@ -271,6 +284,21 @@ def found_marks(it: Type) -> List[Type]:
     if it.name == "PhantomData" and it.own is None:
         return [it]
     return [found for x in it.args for found in found_marks(x)]
+
+
+def array_in(it: Type, names: Set[str]) -> Optional[Type]:
+    """The first array in a type, other than in a type that the user declared."""
+    return found_in(it, lambda x: x.own is None and x.name in names)
+
+
+def unreturned(it: Type, inside: bool = False) -> Optional[Type]:
+    """The first array in a type that isn't read back as it is: of others than bytes, or `inside` another one."""
+    if it.parameter or it.own is None and it.name == "PhantomData":
+        return None
+    if it.own is None and it.name == "array" and (inside or it.args[0].name != "u8"):
+        return it
+    inside = inside or it.own is None and it.name == "OwnedArray"
+    return next((found for x in it.args if (found := unreturned(x, inside))), None)
 
 
 def is_map(it: Type) -> bool:

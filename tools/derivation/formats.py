@@ -383,7 +383,6 @@ class Formats(Laws):
         """What the serializer has to be."""
         self.use("archive_core::ser", "ResolverAlloc", "Writer")
         alloc = "ResolverAlloc<Alloc = Global>" if any(self.any_of(t, ("array", "OwnedArray")) for t in types) else "ResolverAlloc"
-        self.use("std::alloc", "Global")
         if any(self.shares(t) for t in types):
             self.use("archive_core::sharing", "Sharing")
             return f"Sharing + Writer + {alloc}"
