@@ -147,7 +147,7 @@ impl<A: Allocator + Clone> Share<A> {
         states.start(key)
     }
 
-    // Makes the map, where there is none.
+    // Makes what keeps the states, where there is none.
     #[tactic(auto, unfolding(crate::specs::Known::key_states))]
     fn open(&mut self) -> Result<(), Error>
         ensures open { OnOk result (IsSome self.new.states) }

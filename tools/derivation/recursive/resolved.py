@@ -7,7 +7,7 @@ named in the other.
 from .plain import items_of
 from .slices import is_shared_slice
 from .term_words import is_run
-from . import write_proofs
+from . import resolvers, write_proofs
 
 # What finds the rest, and what a variant of no fields comes to.
 FOUND = "search rules"
@@ -20,8 +20,8 @@ def has_flavor(it, type):
 
 
 def is_told(it):
-    """Whether the search is told how a value is resolved: in an enum of several variants, of which one has such a part."""
-    return not it.is_record and not it.is_holder and len(it.cases) > 1 and any(has_flavor(it, type) for case in it.cases for type in case.types)
+    """Whether the search has to be told how each variant is resolved: where one has such a part."""
+    return any(has_flavor(it, type) for case in it.cases for type in case.types)
 
 
 def calls_in(it, case):
@@ -37,16 +37,9 @@ def calls_in(it, case):
     return out + [("new", None), (f"resolve_named_case_{case.count}", None)]
 
 
-def binder(it, case, i):
-    """The name of a part in the pattern of its arm: one that isn't looked at has a line before it."""
-    type = case.types[i]
-    is_seen = not case.leads_back[i] or is_run(type) or is_shared_slice(type) or it.terms.is_member(type)
-    return f"w.in-{case.name}.{'' if is_seen else '_'}{case.names[i]}"
-
-
 def arm(it, case, named):
     """What an arm comes to; `named` are its calls with the names that the proof has for them."""
-    values = [binder(it, case, i) for i in range(case.count)]
+    values = [f"w.in-{case.name}.{name}" for name in resolvers.bound(it, case)]
     lets, same = "", []
     for i, type in enumerate(case.types):
         its = {word.split("-")[0]: name for word, of, name in named if of == i}
