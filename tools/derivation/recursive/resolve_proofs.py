@@ -1,5 +1,4 @@
-"""The answers on `resolve` of enums. Each variant's call leaves what `resolve` is to leave, once the value and what was kept of it are written as this variant's.
-The search finds that, too, in a minute where there are three variants."""
+"""The answers on `resolve` of enums."""
 
 from . import proofs, resolved, resolvers
 from .refusals import keeps_memory

@@ -1,34 +1,28 @@
-"""The arms of `resolve` of an enum with vectors of shared pointers in it.
+"""The arms of `resolve` of an enum: each variant's call leaves what `resolve` is to leave, once the value and what was kept of it are written as this variant's.
 
-What the flavor of such a pointer is the search of the check compares by its text alone where the arms of a match have met: there it is written out in the one, and
-named in the other.
+What that call says is named, since the search takes minutes to find it where a variant has several fields that lead back. Nor does it find what the flavor of a
+shared pointer is where the arms of a match have met: there it is written out in the one, and named in the other.
 """
 
 from .plain import items_of
 from .slices import is_shared_slice
-from .term_words import is_run
-from . import resolvers, write_proofs
+from .term_words import is_map, is_run
+from . import arrays, resolvers, write_proofs
 
-# What finds the rest, and what a variant of no fields comes to.
+# What finds the rest.
 FOUND = "search rules"
 
 
-def has_flavor(it, type):
-    """Whether a hollow part in its place is of elements that are shared pointers, weak ones, or options of these."""
-    inner = type.args[0] if type.name == "Box" and it.terms.leads_back(type) else type
-    return is_run(inner) and it.terms.is_pointer(inner.args[0])
-
-
 def is_told(it):
-    """Whether the search has to be told how each variant is resolved: where one has such a part."""
-    return any(has_flavor(it, type) for case in it.cases for type in case.types)
+    """Whether it is known by which calls each variant is resolved: not where a map or a tuple leads back."""
+    return not any(back and (is_map(type) or it.terms.is_row(type)) for case in it.cases for type, back in zip(case.types, case.leads_back))
 
 
 def calls_in(it, case):
     """The calls by which a variant is resolved, in order, each by its name and the part that it is of, if of one."""
     out = []
     for i, (type, back) in enumerate(zip(case.types, case.leads_back)):
-        if not back or it.terms.is_member(type) or it.terms.is_pointer(type):
+        if not back or it.terms.is_member(type) or it.terms.is_pointer(type) or arrays.is_array(type):
             continue
         if is_run(type) or is_shared_slice(type):
             out.append(("len", i))
@@ -50,7 +44,8 @@ def arm(it, case, named):
         lets += f"let same{i} : {made} ≡ length {items_of(type, values[i])} = grind (arith, {said}) in "
         same.append(f"same{i}")
     new, resolved = (f"w.{name}" for _, of, name in named if of is None)
-    is_ = f"w.in-{case.name}.is, w.in-{case.name}-resolver.is, {case.n}_opens {' '.join(values)}"
+    kept = [f"w.in-{case.name}-resolver.is"] if case.count else []
+    is_ = ", ".join([f"w.in-{case.name}.is", *kept, " ".join([f"{case.n}_opens", *values])])
     return (
         f"{lets}let after : g.match-self.bytes ≡ {resolved}.new.place.0 = {FOUND} in let there = rw ({', '.join(same + [f'{new}.ensures.position'])}) at {resolved}.ensures in"
         f" rw ({is_}, after, w.result-is) (record {{ resolved = there.resolved; refused = there.refused; same_length = {FOUND} }})"
@@ -62,4 +57,4 @@ def arms(it):
     made = [(case, word, of) for case in it.cases for word, of in calls_in(it, case)]
     names = write_proofs.in_arms([(case.name, word) for case, word, _ in made])
     each = [[(word, of, name) for (other, word, of), name in zip(made, names) if other is case] for case in it.cases]
-    return [arm(it, case, named) if case.count else FOUND for case, named in zip(it.cases, each)]
+    return [arm(it, case, named) for case, named in zip(it.cases, each)]

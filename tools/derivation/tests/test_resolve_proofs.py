@@ -14,10 +14,15 @@ class ResolveProofs(RepositoryTest):
 
     def test_each_variant_has_an_arm(self):
         text = self.answers("#[derive(Drop)]\npub enum A { Nil, Num(i64), Add(Box<A>, Box<A>), Call(String, Vec<A>) }", "A")
-        self.assertIn("in-Nil w ↦ rw (w.in-Nil.is, a_nil_opens, w.bytes-is, w.result-is) (search rules)", text)
-        self.assertIn("rw (w.in-Add.is, w.in-Add-resolver.is, a_add_opens w.in-Add._a0 w.in-Add._a1, w.bytes-is, w.result-is)", text)
-        self.assertIn("rw (w.in-Call.is, w.in-Call-resolver.is, a_call_opens w.in-Call.a0 w.in-Call.a1, w.bytes-is, w.result-is)", text)
+        self.assertIn("  | in-Nil w ↦ let after : g.match-self.bytes ≡ w.resolve_named_case_0.new.place.0 = search rules in", text)
+        self.assertIn("rw (w.in-Nil.is, a_nil_opens, after, w.result-is)", text)
+        self.assertIn("rw (w.in-Add.is, w.in-Add-resolver.is, a_add_opens w.in-Add._a0 w.in-Add._a1, after, w.result-is)", text)
+        self.assertIn("rw (w.in-Call.is, w.in-Call-resolver.is, a_call_opens w.in-Call.a0 w.in-Call.a1, after, w.result-is)", text)
         self.assertIn("resolve.Goals.{in-Nil, in-Num+in-Num-resolver, in-Add+in-Add-resolver, in-Call+in-Call-resolver}", text)
+
+    def test_a_map_is_left_to_the_search(self):
+        text = self.answers("use std::collections::BTreeMap;\n#[derive(Drop)]\npub enum A { Num(i64), All(BTreeMap<String, A>) }", "A")
+        self.assertIn("  | in-Num+in-Num-resolver w ↦ rw (w.in-Num.is, w.in-Num-resolver.is, a_num_opens w.in-Num.a0, w.bytes-is, w.result-is) (search rules)\n", text)
 
     def test_a_record_has_none(self):
         self.assertIsNone(self.answers("#[derive(Drop)]\npub struct A { x: u8, y: Vec<A> }", "A"))
