@@ -35,29 +35,33 @@ pub fn boxes(node: &Node, most: usize) -> usize {
 // Below this line all is written by tools/derive: change what is above it, and run it again.
 
 ghost use Rattle.archive_core.specs.CallOutcomes.{ResolvesAs};
+ghost use Rattle.archive_core.specs.Causes.{HindersAt};
 ghost use Rattle.archive_core.specs.Chains.{HeadIsRead};
+ghost use Rattle.archive_core.specs.Definitions.{both, no_definition};
 ghost use Rattle.archive_core.specs.Expressed.{ExpressesParts, ExpressesVariants};
+ghost use Rattle.archive_core.specs.Layout.{up};
+ghost use Rattle.archive_core.specs.OwnChoices.{variant_definitions};
 ghost use Rattle.archive_core.specs.Payloads.{payload_in};
 ghost use Rattle.archive_core.specs.PlannedOwners.{one_planned};
 ghost use Rattle.archive_core.specs.ReadBack.{Read, ReadsAs};
 ghost use Rattle.archive_core.specs.SealOutcomes.{IsSealOf, SealsPart, seal_tag};
 ghost use Rattle.archive_core.specs.Seen.{IsPartOf, RefusesPart, ShowsValueOf, part_tag, tag_of};
-ghost use Rattle.archive_core.specs.Shape.{one, part, parts, variant};
-ghost use Rattle.archive_core.specs.Value.{value};
-ghost use Rattle.archive_core.specs.Writing.{ZeroedPlace};
+ghost use Rattle.archive_core.specs.Shape.{no_part, one, part, parts, variant, variant_at};
+ghost use Rattle.archive_core.specs.Value.{case, no_value, value};
+ghost use Rattle.archive_core.specs.Writing.{Resolves, ZeroedPlace};
 ghost use Rattle.own_types.specs.NodeMeaning.{node_around, node_keys_around};
-ghost use Rattle.own_types.specs.NodeShape.{node_chain_known, node_checked, node_cons_parts, node_definitions, node_has_layout, node_has_variants, node_is_align, node_layout, node_name, node_no_others, node_shape, node_variants};
+ghost use Rattle.own_types.specs.NodeShape.{node_chain_known, node_checked, node_cons_parts, node_definitions, node_has_layout, node_has_variants, node_is_align, node_layout, node_name, node_no_others, node_shape, node_variant_definitions, node_variants};
 ghost use Rattle.std.proofs.Common.{lit≤};
-ghost use Rattle.std.specs.Prelude.{IfErr, IfOk, None, Some, refl, ℕ, ◌+◌, ◌≡◌, ◌≤◌};
+ghost use Rattle.std.specs.Prelude.{IfErr, IfOk, None, OnOk, Some, length, refl, ℕ, ◌+◌, ◌≡◌, ◌≤◌};
 
 use archive_core::boxed::{ArchivedBox, BoxResolver};
+use archive_core::fields::{resolve_0, resolve_1};
 use archive_core::place::Place;
 use archive_core::recursive::{
     BoxAt, Chain, ChainBack, ChainCheck, ChainSource, ReadHead, Rest, WrittenHead,
     boxed_expression, define_choice, first_expression, first_variant, named_expression,
-    no_expressions, no_variants, part_of_variant, read_chain, resolve_named_case_0,
-    resolve_named_case_1, seal_of_payload, serialize_chain, tag_of_choice, tag_of_view,
-    view_of_payload,
+    no_expressions, no_variants, part_of_variant, read_chain, seal_of_payload, serialize_chain,
+    tag_of_choice, tag_of_view, view_of_payload,
 };
 use archive_core::seal::Seal;
 use archive_core::ser::{ResolverAlloc, Writer, serialize_one};
@@ -166,6 +170,50 @@ pub enum NodeResolver {
     Cons((BoxResolver, ())),
 }
 
+// Writes a variant of no field over zeros: its tag, and behind it the fields.
+#[inline(always)]
+fn resolve_node_0(tag: u8, resolvers: (), place: Place<'_, ArchivedNode>) -> Result<(), Error>
+    requires variant { variant_at node_variants tag ≡ Some no_part }
+    requires definitions { variant_definitions node_variant_definitions tag ≡ no_definition }
+    requires inside { Unit {0} → 1 ≤ 8 }
+    requires zeroed { ZeroedPlace 8 place.pos place.bytes.now }
+    requires same_values { Unit {0} }
+    ensures resolved { OnOk result (Resolves node_definitions place.entry.pos place.exit.0.now
+        node_shape (case tag no_value)) }
+    ensures same_length { length place.exit.0.now ≡ length place.entry.bytes.now }
+    ensures refused { IfErr result (HindersAt node_definitions node_shape (case tag no_value)
+        place.entry.pos) }
+{
+    let Place { bytes, pos, .. } = place;
+    bytes[0] = tag;
+    resolve_0(resolvers, pos, 1, &mut bytes[1..])
+}
+
+// Writes a variant of a field over zeros: its tag, and behind it the fields.
+#[inline(always)]
+fn resolve_node_1<A: Archive>(
+    tag: u8,
+    a: &A,
+    resolvers: (A::Resolver, ()),
+    place: Place<'_, ArchivedNode>,
+) -> Result<(), Error>
+    requires variant { variant_at node_variants tag ≡ Some (part A.Archived.shape no_part) }
+    requires definitions { variant_definitions node_variant_definitions tag
+        ≡ (both A.Archived.definitions no_definition) }
+    requires inside { Unit {0} → (up 1 A.Archived.layout.align + A.Archived.layout.size) ≤ 8 }
+    requires zeroed { ZeroedPlace 8 place.pos place.bytes.now }
+    requires same_values { (A.belongs a.now resolvers.0 × Unit {0}) }
+    ensures resolved { OnOk result (Resolves node_definitions place.entry.pos place.exit.0.now
+        node_shape (case tag (value (A.flat a.now resolvers.0) no_value))) }
+    ensures same_length { length place.exit.0.now ≡ length place.entry.bytes.now }
+    ensures refused { IfErr result (HindersAt node_definitions node_shape
+        (case tag (value (A.flat a.now resolvers.0) no_value)) place.entry.pos) }
+{
+    let Place { bytes, pos, .. } = place;
+    bytes[0] = tag;
+    resolve_1(a, resolvers, pos, 1, &mut bytes[1..])
+}
+
 impl Archive for Node {
     ghost use Rattle.own_types.specs.NodeMeaning.{node_meaning, node_flat, node_keys, node_belongs, node_keyed, node_planned};
 
@@ -200,18 +248,13 @@ impl Archive for Node {
     {
         let Place { bytes, pos, .. } = place;
         match self {
-            Node::Nil => { resolve_named_case_0::<ArchivedNode>(0, (), Place::new(pos, bytes)) }
+            Node::Nil => { resolve_node_0(0, (), Place::new(pos, bytes)) }
             Node::Cons(_a0) => {
                 let NodeResolver::Cons(kept) = resolver else {
                     unreachable!();
                 };
                 let h0: BoxAt<ArchivedNode> = BoxAt::new();
-                resolve_named_case_1::<BoxAt<ArchivedNode>, ArchivedNode>(
-                    1,
-                    &h0,
-                    kept,
-                    Place::new(pos, bytes),
-                )
+                resolve_node_1::<BoxAt<ArchivedNode>>(1, &h0, kept, Place::new(pos, bytes))
             }
         }
     }

@@ -52,13 +52,15 @@ pub enum Message {
 // Below this line all is written by tools/derive: change what is above it, and run it again.
 
 ghost use Rattle.archive_core.specs.CallOutcomes.{ResolvesAs};
-ghost use Rattle.archive_core.specs.Causes.{IsRefused};
+ghost use Rattle.archive_core.specs.Causes.{HindersAt, IsRefused};
 ghost use Rattle.archive_core.specs.Definitions.{ExplainsConflict, Extended, both, defines, no_definition};
 ghost use Rattle.archive_core.specs.Expressed.{ExpressesParts, ExpressesVariants};
 ghost use Rattle.archive_core.specs.Expressions.{table_of};
 ghost use Rattle.archive_core.specs.Fields.{field_in};
 ghost use Rattle.archive_core.specs.Keyed.{nothing_keyed, number_keyed, part_keyed, record_keyed};
+ghost use Rattle.archive_core.specs.Layout.{up};
 ghost use Rattle.archive_core.specs.LeafLayout.{no_definition_reached};
+ghost use Rattle.archive_core.specs.OwnChoices.{variant_definitions};
 ghost use Rattle.archive_core.specs.PartsPlanned.{no_part_planned, part_planned};
 ghost use Rattle.archive_core.specs.Payloads.{payload_in};
 ghost use Rattle.archive_core.specs.Plain.{plain_own_check, plain_record, plain_record_planned};
@@ -70,17 +72,17 @@ ghost use Rattle.archive_core.specs.Runs.{EachBelongs, IsRunRefused, SerializedR
 ghost use Rattle.archive_core.specs.SealOutcomes.{IsSealOf, SealsPart, seal_tag};
 ghost use Rattle.archive_core.specs.Seen.{IsPartOf, RefusesPart, ShowsValueOf, part_tag, tag_of};
 ghost use Rattle.archive_core.specs.SelfCheck.Laws.{by_schema};
-ghost use Rattle.archive_core.specs.Shape.{no_part, one, part, parts, variant, vec};
+ghost use Rattle.archive_core.specs.Shape.{no_part, one, part, parts, variant, variant_at, vec};
 ghost use Rattle.archive_core.specs.Value.{case, no_value, product, value};
-ghost use Rattle.archive_core.specs.Writing.{ZeroedPlace};
+ghost use Rattle.archive_core.specs.Writing.{Resolves, ZeroedPlace};
 ghost use Rattle.archive_core.specs.Written.{GoesOn};
-ghost use Rattle.recursive_fields.specs.JsonShape.{json_definitions, json_has_layout, json_has_variants, json_is_align, json_layout, json_list_parts, json_name, json_no_others, json_number_parts, json_object_parts, json_shape, json_stands_for, json_text_parts, json_variants, member_type_definitions, member_type_has_layout, member_type_has_parts, member_type_is_align, member_type_layout, member_type_name, member_type_no_others, member_type_parts, member_type_shape, member_type_stands_for};
+ghost use Rattle.recursive_fields.specs.JsonShape.{json_definitions, json_has_layout, json_has_variants, json_is_align, json_layout, json_list_parts, json_name, json_no_others, json_number_parts, json_object_parts, json_shape, json_stands_for, json_text_parts, json_variant_definitions, json_variants, member_type_definitions, member_type_has_layout, member_type_has_parts, member_type_is_align, member_type_layout, member_type_name, member_type_no_others, member_type_parts, member_type_shape, member_type_stands_for};
 ghost use Rattle.recursive_fields.specs.MessageShape.{message_definitions, message_has_layout, message_has_variants, message_is_align, message_layout, message_name, message_no_others, message_shape};
 ghost use Rattle.std.proofs.Common.{inl, inr, lit≤};
 ghost use Rattle.std.specs.Prelude.{IfErr, IfOk, None, OnOk, Some, [], length, refl, true, ℕ, ◌++◌, ◌+◌, ◌≡◌, ◌≤◌};
 
 use archive_core::error::Error;
-use archive_core::fields::{copy_1, part_in_record, serialize_record_1};
+use archive_core::fields::{copy_1, part_in_record, resolve_0, resolve_1, serialize_record_1};
 use archive_core::option::ArchivedOption;
 use archive_core::place::Place;
 use archive_core::primitive::ArchivedI64;
@@ -88,9 +90,9 @@ use archive_core::record::deserialize_record;
 use archive_core::recursive::{
     VecAt, before_vec, define_choice, define_record, expression_of, first_expression,
     first_variant, handed_on, named_expression, no_expressions, no_variants, part_of_record,
-    part_of_variant, read_part, resolve_named_case_0, resolve_named_case_1, resolve_named_case_2,
-    resolve_named_record_2, seal_of_field, seal_of_payload, serialize_part, serialize_run,
-    tag_of_choice, tag_of_view, vec_expression, view_of_field, view_of_payload,
+    part_of_variant, read_part, resolve_named_case_0, resolve_named_case_2, resolve_named_record_2,
+    seal_of_field, seal_of_payload, serialize_part, serialize_run, tag_of_choice, tag_of_view,
+    vec_expression, view_of_field, view_of_payload,
 };
 use archive_core::seal::{Seal, sealed_part_in_record};
 use archive_core::self_check::{BySchema, RecordCheck, SelfCheck};
@@ -260,6 +262,50 @@ pub enum JsonResolver {
     Object((VecResolver, ())),
 }
 
+// Writes a variant of no field over zeros: its tag, and behind it the fields.
+#[inline(always)]
+fn resolve_json_0(tag: u8, resolvers: (), place: Place<'_, ArchivedJson>) -> Result<(), Error>
+    requires variant { variant_at json_variants tag ≡ Some no_part }
+    requires definitions { variant_definitions json_variant_definitions tag ≡ no_definition }
+    requires inside { Unit {0} → 1 ≤ 16 }
+    requires zeroed { ZeroedPlace 16 place.pos place.bytes.now }
+    requires same_values { Unit {0} }
+    ensures resolved { OnOk result (Resolves json_definitions place.entry.pos place.exit.0.now
+        json_shape (case tag no_value)) }
+    ensures same_length { length place.exit.0.now ≡ length place.entry.bytes.now }
+    ensures refused { IfErr result (HindersAt json_definitions json_shape (case tag no_value)
+        place.entry.pos) }
+{
+    let Place { bytes, pos, .. } = place;
+    bytes[0] = tag;
+    resolve_0(resolvers, pos, 1, &mut bytes[1..])
+}
+
+// Writes a variant of a field over zeros: its tag, and behind it the fields.
+#[inline(always)]
+fn resolve_json_1<A: Archive>(
+    tag: u8,
+    a: &A,
+    resolvers: (A::Resolver, ()),
+    place: Place<'_, ArchivedJson>,
+) -> Result<(), Error>
+    requires variant { variant_at json_variants tag ≡ Some (part A.Archived.shape no_part) }
+    requires definitions { variant_definitions json_variant_definitions tag
+        ≡ (both A.Archived.definitions no_definition) }
+    requires inside { Unit {0} → (up 1 A.Archived.layout.align + A.Archived.layout.size) ≤ 16 }
+    requires zeroed { ZeroedPlace 16 place.pos place.bytes.now }
+    requires same_values { (A.belongs a.now resolvers.0 × Unit {0}) }
+    ensures resolved { OnOk result (Resolves json_definitions place.entry.pos place.exit.0.now
+        json_shape (case tag (value (A.flat a.now resolvers.0) no_value))) }
+    ensures same_length { length place.exit.0.now ≡ length place.entry.bytes.now }
+    ensures refused { IfErr result (HindersAt json_definitions json_shape
+        (case tag (value (A.flat a.now resolvers.0) no_value)) place.entry.pos) }
+{
+    let Place { bytes, pos, .. } = place;
+    bytes[0] = tag;
+    resolve_1(a, resolvers, pos, 1, &mut bytes[1..])
+}
+
 impl Archive for Json {
     ghost use Rattle.recursive_fields.specs.JsonMeaning.{json_meaning, json_flat, json_keys, json_belongs, json_keyed, json_planned};
 
@@ -294,42 +340,32 @@ impl Archive for Json {
     {
         let Place { bytes, pos, .. } = place;
         match self {
-            Json::Null => { resolve_named_case_0::<ArchivedJson>(0, (), Place::new(pos, bytes)) }
+            Json::Null => { resolve_json_0(0, (), Place::new(pos, bytes)) }
             Json::Number(a0) => {
                 let JsonResolver::Number(kept) = resolver else {
                     unreachable!();
                 };
-                resolve_named_case_1::<Number, ArchivedJson>(1, a0, kept, Place::new(pos, bytes))
+                resolve_json_1::<Number>(1, a0, kept, Place::new(pos, bytes))
             }
             Json::Text(a0) => {
                 let JsonResolver::Text(kept) = resolver else {
                     unreachable!();
                 };
-                resolve_named_case_1::<String, ArchivedJson>(2, a0, kept, Place::new(pos, bytes))
+                resolve_json_1::<String>(2, a0, kept, Place::new(pos, bytes))
             }
             Json::List(a0) => {
                 let JsonResolver::List(kept) = resolver else {
                     unreachable!();
                 };
                 let h0: VecAt<ArchivedJson> = VecAt::of(a0.len());
-                resolve_named_case_1::<VecAt<ArchivedJson>, ArchivedJson>(
-                    3,
-                    &h0,
-                    kept,
-                    Place::new(pos, bytes),
-                )
+                resolve_json_1::<VecAt<ArchivedJson>>(3, &h0, kept, Place::new(pos, bytes))
             }
             Json::Object(a0) => {
                 let JsonResolver::Object(kept) = resolver else {
                     unreachable!();
                 };
                 let h0: VecAt<ArchivedMember> = VecAt::of(a0.len());
-                resolve_named_case_1::<VecAt<ArchivedMember>, ArchivedJson>(
-                    4,
-                    &h0,
-                    kept,
-                    Place::new(pos, bytes),
-                )
+                resolve_json_1::<VecAt<ArchivedMember>>(4, &h0, kept, Place::new(pos, bytes))
             }
         }
     }

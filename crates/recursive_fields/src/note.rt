@@ -16,9 +16,11 @@ pub enum Note {
 // Below this line all is written by tools/derive: change what is above it, and run it again.
 
 ghost use Rattle.archive_core.specs.CallOutcomes.{ResolvesAs};
-ghost use Rattle.archive_core.specs.Causes.{IsRefused};
+ghost use Rattle.archive_core.specs.Causes.{HindersAt, IsRefused};
 ghost use Rattle.archive_core.specs.Definitions.{both, no_definition};
 ghost use Rattle.archive_core.specs.Expressed.{ExpressesParts, ExpressesVariants};
+ghost use Rattle.archive_core.specs.Layout.{up};
+ghost use Rattle.archive_core.specs.OwnChoices.{variant_definitions};
 ghost use Rattle.archive_core.specs.Payloads.{payload_in};
 ghost use Rattle.archive_core.specs.PlannedOwners.{one_planned};
 ghost use Rattle.archive_core.specs.Plans.{Serialized};
@@ -27,17 +29,18 @@ ghost use Rattle.archive_core.specs.Runs.{EachBelongs, IsRunRefused, SerializedR
 ghost use Rattle.archive_core.specs.SealOutcomes.{IsSealOf, SealsPart, seal_tag};
 ghost use Rattle.archive_core.specs.Seen.{IsPartOf, ReadsPart, RefusesPart, ShowsValueOf, part_tag, tag_of};
 ghost use Rattle.archive_core.specs.SelfCheck.Laws.{by_schema};
-ghost use Rattle.archive_core.specs.Shape.{one, part, parts, variant, vec};
+ghost use Rattle.archive_core.specs.Shape.{no_part, one, part, parts, variant, variant_at, vec};
 ghost use Rattle.archive_core.specs.Value.{case, list, no_value, value};
-ghost use Rattle.archive_core.specs.Writing.{ZeroedPlace};
+ghost use Rattle.archive_core.specs.Writing.{Resolves, ZeroedPlace};
 ghost use Rattle.archive_core.specs.Written.{GoesOn};
 ghost use Rattle.recursive_fields.specs.NoteMeaning.{tuple3_string_note_option_string_keys, tuple3_string_note_option_string_meaning};
-ghost use Rattle.recursive_fields.specs.NoteShape.{note_definitions, note_has_layout, note_has_variants, note_is_align, note_layout, note_name, note_no_others, note_shape, note_table_parts, note_text_parts, note_variants, note_work_parts, tuple3_string_note_option_string_definitions, tuple3_string_note_option_string_has_layout, tuple3_string_note_option_string_has_parts, tuple3_string_note_option_string_is_align, tuple3_string_note_option_string_layout, tuple3_string_note_option_string_no_others, tuple3_string_note_option_string_parts, tuple3_string_note_option_string_shape};
+ghost use Rattle.recursive_fields.specs.NoteShape.{note_definitions, note_has_layout, note_has_variants, note_is_align, note_layout, note_name, note_no_others, note_shape, note_table_parts, note_text_parts, note_variant_definitions, note_variants, note_work_parts, tuple3_string_note_option_string_definitions, tuple3_string_note_option_string_has_layout, tuple3_string_note_option_string_has_parts, tuple3_string_note_option_string_is_align, tuple3_string_note_option_string_layout, tuple3_string_note_option_string_no_others, tuple3_string_note_option_string_parts, tuple3_string_note_option_string_shape};
 ghost use Rattle.std.proofs.Common.{lit≤};
-ghost use Rattle.std.specs.Prelude.{IfErr, IfOk, None, [], length, refl, ℕ, ◌++◌, ◌+◌, ◌≡◌, ◌≤◌};
+ghost use Rattle.std.specs.Prelude.{IfErr, IfOk, None, OnOk, Some, [], length, refl, ℕ, ◌++◌, ◌+◌, ◌≡◌, ◌≤◌};
 
 use archive_core::core_impls::ArchivedTuple3;
 use archive_core::error::Error;
+use archive_core::fields::resolve_1;
 use archive_core::map::ArchivedSortedMap;
 use archive_core::option::ArchivedOption;
 use archive_core::place::Place;
@@ -45,8 +48,8 @@ use archive_core::primitive::ArchivedU16;
 use archive_core::recursive::{
     VecAt, before_vec, define_choice, expression_of, first_expression, first_variant, handed_on,
     named_expression, no_expressions, no_variants, part_of_record, part_of_variant, read_part,
-    record_expression, resolve_named_case_1, seal_of_payload, serialize_part, serialize_run,
-    tag_of_choice, tag_of_view, vec_expression, view_of_payload,
+    record_expression, seal_of_payload, serialize_part, serialize_run, tag_of_choice, tag_of_view,
+    vec_expression, view_of_payload,
 };
 use archive_core::seal::Seal;
 use archive_core::self_check::BySchema;
@@ -263,6 +266,31 @@ pub enum NoteResolver {
     Table((VecResolver, ())),
 }
 
+// Writes a variant of a field over zeros: its tag, and behind it the fields.
+#[inline(always)]
+fn resolve_note_1<A: Archive>(
+    tag: u8,
+    a: &A,
+    resolvers: (A::Resolver, ()),
+    place: Place<'_, ArchivedNote>,
+) -> Result<(), Error>
+    requires variant { variant_at note_variants tag ≡ Some (part A.Archived.shape no_part) }
+    requires definitions { variant_definitions note_variant_definitions tag
+        ≡ (both A.Archived.definitions no_definition) }
+    requires inside { Unit {0} → (up 1 A.Archived.layout.align + A.Archived.layout.size) ≤ 12 }
+    requires zeroed { ZeroedPlace 12 place.pos place.bytes.now }
+    requires same_values { (A.belongs a.now resolvers.0 × Unit {0}) }
+    ensures resolved { OnOk result (Resolves note_definitions place.entry.pos place.exit.0.now
+        note_shape (case tag (value (A.flat a.now resolvers.0) no_value))) }
+    ensures same_length { length place.exit.0.now ≡ length place.entry.bytes.now }
+    ensures refused { IfErr result (HindersAt note_definitions note_shape
+        (case tag (value (A.flat a.now resolvers.0) no_value)) place.entry.pos) }
+{
+    let Place { bytes, pos, .. } = place;
+    bytes[0] = tag;
+    resolve_1(a, resolvers, pos, 1, &mut bytes[1..])
+}
+
 impl Archive for Note {
     ghost use Rattle.recursive_fields.specs.NoteMeaning.{note_meaning, note_flat, note_keys, note_belongs, note_keyed, note_planned};
 
@@ -301,25 +329,20 @@ impl Archive for Note {
                 let NoteResolver::Text(kept) = resolver else {
                     unreachable!();
                 };
-                resolve_named_case_1::<String, ArchivedNote>(0, a0, kept, Place::new(pos, bytes))
+                resolve_note_1::<String>(0, a0, kept, Place::new(pos, bytes))
             }
             Note::Work(a0) => {
                 let NoteResolver::Work(kept) = resolver else {
                     unreachable!();
                 };
-                resolve_named_case_1::<BTreeMap<u16, i8>, ArchivedNote>(
-                    1,
-                    a0,
-                    kept,
-                    Place::new(pos, bytes),
-                )
+                resolve_note_1::<BTreeMap<u16, i8>>(1, a0, kept, Place::new(pos, bytes))
             }
             Note::Table(a0) => {
                 let NoteResolver::Table(kept) = resolver else {
                     unreachable!();
                 };
                 let h0: VecAt<Tuple3StringNoteOptionString> = VecAt::of(a0.len());
-                resolve_named_case_1::<VecAt<Tuple3StringNoteOptionString>, ArchivedNote>(
+                resolve_note_1::<VecAt<Tuple3StringNoteOptionString>>(
                     2,
                     &h0,
                     kept,

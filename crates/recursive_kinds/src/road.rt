@@ -15,13 +15,15 @@ pub enum Road {
 
 ghost use Rattle.archive_core.specs.Arrays.{named_twice, no_two, twice_keyed};
 ghost use Rattle.archive_core.specs.CallOutcomes.{ResolvesAs};
-ghost use Rattle.archive_core.specs.Causes.{IsRefused};
+ghost use Rattle.archive_core.specs.Causes.{HindersAt, IsRefused};
 ghost use Rattle.archive_core.specs.Choices.{option_shape};
-ghost use Rattle.archive_core.specs.Definitions.{no_definition};
+ghost use Rattle.archive_core.specs.Definitions.{both, no_definition};
 ghost use Rattle.archive_core.specs.Entries.{ReadsBack};
 ghost use Rattle.archive_core.specs.Error.TheVariants.{OutOfMemory};
 ghost use Rattle.archive_core.specs.Expressed.{ExpressesParts, ExpressesVariants};
+ghost use Rattle.archive_core.specs.Layout.{up};
 ghost use Rattle.archive_core.specs.Options.{option_flat};
+ghost use Rattle.archive_core.specs.OwnChoices.{variant_definitions};
 ghost use Rattle.archive_core.specs.Payloads.{payload_in};
 ghost use Rattle.archive_core.specs.PlannedOwners.{one_planned};
 ghost use Rattle.archive_core.specs.Plans.{Serialized};
@@ -32,18 +34,19 @@ ghost use Rattle.archive_core.specs.ReadBack.{Read, ReadsAs};
 ghost use Rattle.archive_core.specs.SealOutcomes.{IsSealOf, SealsPart, seal_tag};
 ghost use Rattle.archive_core.specs.Seen.{IsPartOf, RefusesPart, ShowsValueOf, part_tag, tag_of};
 ghost use Rattle.archive_core.specs.SelfCheck.Laws.{by_schema};
-ghost use Rattle.archive_core.specs.Shape.{one, part, parts, shared, variant, weak};
+ghost use Rattle.archive_core.specs.Shape.{no_part, one, part, parts, shared, variant, variant_at, weak};
 ghost use Rattle.archive_core.specs.SharedLaws.{weak_flat};
 ghost use Rattle.archive_core.specs.SharedSources.{rc_flat, rc_flavor};
 ghost use Rattle.archive_core.specs.Value.{case, no_value, shared_value, value};
 ghost use Rattle.archive_core.specs.Viewed.{Viewed};
-ghost use Rattle.archive_core.specs.Writing.{ZeroedPlace};
+ghost use Rattle.archive_core.specs.Writing.{Resolves, ZeroedPlace};
 ghost use Rattle.archive_core.specs.Written.{GoesOn};
-ghost use Rattle.recursive_kinds.specs.RoadShape.{road_definitions, road_detour_parts, road_has_layout, road_has_variants, road_is_align, road_layout, road_name, road_no_others, road_shape, road_variants, road_way_parts};
+ghost use Rattle.recursive_kinds.specs.RoadShape.{road_definitions, road_detour_parts, road_has_layout, road_has_variants, road_is_align, road_layout, road_name, road_no_others, road_shape, road_variant_definitions, road_variants, road_way_parts};
 ghost use Rattle.std.proofs.Common.{lit≤};
-ghost use Rattle.std.specs.Prelude.{IfErr, IfNone, IfOk, IfSome, List, None, Some, [], length, refl, ℕ, ⊤, ◌++◌, ◌+◌, ◌≡◌, ◌≤◌};
+ghost use Rattle.std.specs.Prelude.{IfErr, IfNone, IfOk, IfSome, List, None, OnOk, Some, [], length, refl, ℕ, ⊤, ◌++◌, ◌+◌, ◌≡◌, ◌≤◌};
 
 use archive_core::error::Error;
+use archive_core::fields::resolve_2;
 use archive_core::option::ArchivedOption;
 use archive_core::place::Place;
 use archive_core::pooling::{Pooled, Pooling, PoolingState};
@@ -51,9 +54,8 @@ use archive_core::rc::{ArchivedRc, ArchivedRcWeak, RcFlavor, RcResolver, RcWeakR
 use archive_core::recursive::{
     begin_reading, begin_shared, define_choice, expression_of, finish_reading, finish_shared,
     first_expression, first_variant, named_expression, no_expressions, no_variants,
-    option_expression, part_behind, part_of_variant, read_part, resolve_named_case_2,
-    seal_of_payload, serialize_part, shared_expression, tag_of_choice, tag_of_view,
-    view_of_payload, weak_expression,
+    option_expression, part_behind, part_of_variant, read_part, seal_of_payload, serialize_part,
+    shared_expression, tag_of_choice, tag_of_view, view_of_payload, weak_expression,
 };
 use archive_core::seal::Seal;
 use archive_core::self_check::BySchema;
@@ -451,6 +453,37 @@ impl Archive for WeakRoadAt {
     }
 }
 
+// Writes a variant of 2 fields over zeros: its tag, and behind it the fields.
+#[inline(always)]
+fn resolve_road_2<A: Archive, B: Archive>(
+    tag: u8,
+    a: &A,
+    b: &B,
+    resolvers: (A::Resolver, (B::Resolver, ())),
+    place: Place<'_, ArchivedRoad>,
+) -> Result<(), Error>
+    requires variant { variant_at road_variants tag ≡ Some
+        (part A.Archived.shape (part B.Archived.shape no_part)) }
+    requires definitions { variant_definitions road_variant_definitions tag
+        ≡ (both A.Archived.definitions (both B.Archived.definitions no_definition)) }
+    requires inside { Unit {0} → (up (up 1 A.Archived.layout.align + A.Archived.layout.size)
+        B.Archived.layout.align + B.Archived.layout.size) ≤ 12 }
+    requires zeroed { ZeroedPlace 12 place.pos place.bytes.now }
+    requires same_values { (A.belongs a.now resolvers.0
+        × (B.belongs b.now resolvers.1.0 × Unit {0})) }
+    ensures resolved { OnOk result (Resolves road_definitions place.entry.pos place.exit.0.now
+        road_shape (case tag (value (A.flat a.now resolvers.0)
+        (value (B.flat b.now resolvers.1.0) no_value)))) }
+    ensures same_length { length place.exit.0.now ≡ length place.entry.bytes.now }
+    ensures refused { IfErr result (HindersAt road_definitions road_shape
+        (case tag (value (A.flat a.now resolvers.0) (value (B.flat b.now resolvers.1.0) no_value)))
+        place.entry.pos) }
+{
+    let Place { bytes, pos, .. } = place;
+    bytes[0] = tag;
+    resolve_2(a, b, resolvers, pos, 1, &mut bytes[1..])
+}
+
 impl Archive for Road {
     ghost use Rattle.recursive_kinds.specs.RoadMeaning.{road_meaning, road_flat, road_keys, road_belongs, road_keyed, road_planned};
 
@@ -489,7 +522,7 @@ impl Archive for Road {
                 let RoadResolver::Way(kept) = resolver else {
                     unreachable!();
                 };
-                resolve_named_case_2::<u8, OptionSharedRoadAt, ArchivedRoad>(
+                resolve_road_2::<u8, OptionSharedRoadAt>(
                     0,
                     a0,
                     &OptionSharedRoadAt,
@@ -501,7 +534,7 @@ impl Archive for Road {
                 let RoadResolver::Detour(kept) = resolver else {
                     unreachable!();
                 };
-                resolve_named_case_2::<SharedRoadAt, WeakRoadAt, ArchivedRoad>(
+                resolve_road_2::<SharedRoadAt, WeakRoadAt>(
                     1,
                     &SharedRoadAt,
                     &WeakRoadAt,

@@ -23,11 +23,13 @@ pub enum Entry {
 // Below this line all is written by tools/derive: change what is above it, and run it again.
 
 ghost use Rattle.archive_core.specs.CallOutcomes.{ResolvesAs};
-ghost use Rattle.archive_core.specs.Causes.{IsRefused};
-ghost use Rattle.archive_core.specs.Definitions.{ExplainsConflict, Extended, defines, no_definition};
+ghost use Rattle.archive_core.specs.Causes.{HindersAt, IsRefused};
+ghost use Rattle.archive_core.specs.Definitions.{ExplainsConflict, Extended, both, defines, no_definition};
 ghost use Rattle.archive_core.specs.Expressed.{ExpressesParts, ExpressesVariants};
 ghost use Rattle.archive_core.specs.Expressions.{table_of};
 ghost use Rattle.archive_core.specs.Fields.{field_in};
+ghost use Rattle.archive_core.specs.Layout.{up};
+ghost use Rattle.archive_core.specs.OwnChoices.{variant_definitions};
 ghost use Rattle.archive_core.specs.Payloads.{payload_in};
 ghost use Rattle.archive_core.specs.PlannedOwners.{one_planned};
 ghost use Rattle.archive_core.specs.Plans.{Serialized};
@@ -36,24 +38,25 @@ ghost use Rattle.archive_core.specs.Runs.{EachBelongs, IsRunRefused, SerializedR
 ghost use Rattle.archive_core.specs.SealOutcomes.{IsSealOf, SealsPart, seal_tag};
 ghost use Rattle.archive_core.specs.Seen.{IsPartOf, RefusesPart, ShowsValueOf, part_tag, tag_of};
 ghost use Rattle.archive_core.specs.SelfCheck.Laws.{by_schema};
-ghost use Rattle.archive_core.specs.Shape.{boxed, one, part, parts, variant, vec};
+ghost use Rattle.archive_core.specs.Shape.{boxed, no_part, one, part, parts, variant, variant_at, vec};
 ghost use Rattle.archive_core.specs.Value.{case, no_value, value};
-ghost use Rattle.archive_core.specs.Writing.{ZeroedPlace};
+ghost use Rattle.archive_core.specs.Writing.{Resolves, ZeroedPlace};
 ghost use Rattle.archive_core.specs.Written.{GoesOn};
-ghost use Rattle.recursive_types.specs.DirShape.{dir_definitions, dir_has_layout, dir_has_parts, dir_is_align, dir_layout, dir_name, dir_no_others, dir_parts, dir_shape, dir_stands_for, entry_definitions, entry_file_parts, entry_has_layout, entry_has_variants, entry_is_align, entry_layout, entry_name, entry_no_others, entry_shape, entry_stands_for, entry_sub_parts, entry_variants};
+ghost use Rattle.recursive_types.specs.DirShape.{dir_definitions, dir_has_layout, dir_has_parts, dir_is_align, dir_layout, dir_name, dir_no_others, dir_parts, dir_shape, dir_stands_for, entry_definitions, entry_file_parts, entry_has_layout, entry_has_variants, entry_is_align, entry_layout, entry_name, entry_no_others, entry_shape, entry_stands_for, entry_sub_parts, entry_variant_definitions, entry_variants};
 ghost use Rattle.std.proofs.Common.{lit≤};
-ghost use Rattle.std.specs.Prelude.{IfErr, IfOk, None, OnOk, [], length, refl, ℕ, ◌++◌, ◌+◌, ◌≡◌, ◌≤◌};
+ghost use Rattle.std.specs.Prelude.{IfErr, IfOk, None, OnOk, Some, [], length, refl, ℕ, ◌++◌, ◌+◌, ◌≡◌, ◌≤◌};
 
 use archive_core::boxed::{ArchivedBox, BoxResolver};
 use archive_core::error::Error;
+use archive_core::fields::resolve_1;
 use archive_core::place::Place;
 use archive_core::primitive::ArchivedU64;
 use archive_core::recursive::{
     BoxAt, VecAt, before_box, before_vec, boxed_expression, define_choice, define_record,
     expression_of, first_expression, first_variant, handed_on, named_expression, no_expressions,
-    no_variants, part_of_record, part_of_variant, read_part, resolve_named_case_1,
-    resolve_named_record_2, seal_of_field, seal_of_payload, serialize_inner, serialize_inner_slice,
-    serialize_part, tag_of_choice, tag_of_view, vec_expression, view_of_field, view_of_payload,
+    no_variants, part_of_record, part_of_variant, read_part, resolve_named_record_2, seal_of_field,
+    seal_of_payload, serialize_inner, serialize_inner_slice, serialize_part, tag_of_choice,
+    tag_of_view, vec_expression, view_of_field, view_of_payload,
 };
 use archive_core::seal::Seal;
 use archive_core::self_check::BySchema;
@@ -642,6 +645,31 @@ pub enum EntryResolver {
     Sub((BoxResolver, ())),
 }
 
+// Writes a variant of a field over zeros: its tag, and behind it the fields.
+#[inline(always)]
+fn resolve_entry_1<A: Archive>(
+    tag: u8,
+    a: &A,
+    resolvers: (A::Resolver, ()),
+    place: Place<'_, ArchivedEntry>,
+) -> Result<(), Error>
+    requires variant { variant_at entry_variants tag ≡ Some (part A.Archived.shape no_part) }
+    requires definitions { variant_definitions entry_variant_definitions tag
+        ≡ (both A.Archived.definitions no_definition) }
+    requires inside { Unit {0} → (up 1 A.Archived.layout.align + A.Archived.layout.size) ≤ 16 }
+    requires zeroed { ZeroedPlace 16 place.pos place.bytes.now }
+    requires same_values { (A.belongs a.now resolvers.0 × Unit {0}) }
+    ensures resolved { OnOk result (Resolves entry_definitions place.entry.pos place.exit.0.now
+        entry_shape (case tag (value (A.flat a.now resolvers.0) no_value))) }
+    ensures same_length { length place.exit.0.now ≡ length place.entry.bytes.now }
+    ensures refused { IfErr result (HindersAt entry_definitions entry_shape
+        (case tag (value (A.flat a.now resolvers.0) no_value)) place.entry.pos) }
+{
+    let Place { bytes, pos, .. } = place;
+    bytes[0] = tag;
+    resolve_1(a, resolvers, pos, 1, &mut bytes[1..])
+}
+
 impl Archive for Entry {
     ghost use Rattle.recursive_types.specs.DirMeaning.{entry_meaning, entry_flat, entry_keys, entry_belongs, entry_keyed, entry_planned};
 
@@ -680,19 +708,14 @@ impl Archive for Entry {
                 let EntryResolver::File(kept) = resolver else {
                     unreachable!();
                 };
-                resolve_named_case_1::<u64, ArchivedEntry>(0, a0, kept, Place::new(pos, bytes))
+                resolve_entry_1::<u64>(0, a0, kept, Place::new(pos, bytes))
             }
             Entry::Sub(_a0) => {
                 let EntryResolver::Sub(kept) = resolver else {
                     unreachable!();
                 };
                 let h0: BoxAt<ArchivedDir> = BoxAt::new();
-                resolve_named_case_1::<BoxAt<ArchivedDir>, ArchivedEntry>(
-                    1,
-                    &h0,
-                    kept,
-                    Place::new(pos, bytes),
-                )
+                resolve_entry_1::<BoxAt<ArchivedDir>>(1, &h0, kept, Place::new(pos, bytes))
             }
         }
     }

@@ -14,9 +14,11 @@ pub enum Expr {
 // Below this line all is written by tools/derive: change what is above it, and run it again.
 
 ghost use Rattle.archive_core.specs.CallOutcomes.{ResolvesAs};
-ghost use Rattle.archive_core.specs.Causes.{IsRefused};
-ghost use Rattle.archive_core.specs.Definitions.{no_definition};
+ghost use Rattle.archive_core.specs.Causes.{HindersAt, IsRefused};
+ghost use Rattle.archive_core.specs.Definitions.{both, no_definition};
 ghost use Rattle.archive_core.specs.Expressed.{ExpressesParts, ExpressesVariants};
+ghost use Rattle.archive_core.specs.Layout.{up};
+ghost use Rattle.archive_core.specs.OwnChoices.{variant_definitions};
 ghost use Rattle.archive_core.specs.Payloads.{payload_in};
 ghost use Rattle.archive_core.specs.PlannedOwners.{one_planned};
 ghost use Rattle.archive_core.specs.Plans.{Serialized};
@@ -25,24 +27,24 @@ ghost use Rattle.archive_core.specs.Runs.{EachBelongs, IsRunRefused, SerializedR
 ghost use Rattle.archive_core.specs.SealOutcomes.{IsSealOf, SealsPart, seal_tag};
 ghost use Rattle.archive_core.specs.Seen.{IsPartOf, RefusesPart, ShowsValueOf, part_tag, tag_of};
 ghost use Rattle.archive_core.specs.SelfCheck.Laws.{by_schema};
-ghost use Rattle.archive_core.specs.Shape.{boxed, one, part, parts, variant, vec};
+ghost use Rattle.archive_core.specs.Shape.{boxed, no_part, one, part, parts, variant, variant_at, vec};
 ghost use Rattle.archive_core.specs.Value.{case, no_value, value};
-ghost use Rattle.archive_core.specs.Writing.{ZeroedPlace};
+ghost use Rattle.archive_core.specs.Writing.{Resolves, ZeroedPlace};
 ghost use Rattle.archive_core.specs.Written.{GoesOn};
-ghost use Rattle.recursive_types.specs.ExprShape.{expr_add_parts, expr_call_parts, expr_definitions, expr_has_layout, expr_has_variants, expr_is_align, expr_layout, expr_name, expr_no_others, expr_num_parts, expr_shape, expr_variants};
+ghost use Rattle.recursive_types.specs.ExprShape.{expr_add_parts, expr_call_parts, expr_definitions, expr_has_layout, expr_has_variants, expr_is_align, expr_layout, expr_name, expr_no_others, expr_num_parts, expr_shape, expr_variant_definitions, expr_variants};
 ghost use Rattle.std.proofs.Common.{lit≤};
-ghost use Rattle.std.specs.Prelude.{IfErr, IfOk, None, [], length, refl, ℕ, ◌++◌, ◌+◌, ◌≡◌, ◌≤◌};
+ghost use Rattle.std.specs.Prelude.{IfErr, IfOk, None, OnOk, Some, [], length, refl, ℕ, ◌++◌, ◌+◌, ◌≡◌, ◌≤◌};
 
 use archive_core::boxed::{ArchivedBox, BoxResolver};
 use archive_core::error::Error;
+use archive_core::fields::{resolve_1, resolve_2};
 use archive_core::place::Place;
 use archive_core::primitive::ArchivedI64;
 use archive_core::recursive::{
     BoxAt, VecAt, before_box, before_vec, boxed_expression, define_choice, expression_of,
     first_expression, first_variant, handed_on, named_expression, no_expressions, no_variants,
-    part_of_variant, read_part, resolve_named_case_1, resolve_named_case_2, seal_of_payload,
-    serialize_inner, serialize_part, serialize_run, tag_of_choice, tag_of_view, vec_expression,
-    view_of_payload,
+    part_of_variant, read_part, seal_of_payload, serialize_inner, serialize_part, serialize_run,
+    tag_of_choice, tag_of_view, vec_expression, view_of_payload,
 };
 use archive_core::seal::Seal;
 use archive_core::self_check::BySchema;
@@ -182,6 +184,62 @@ pub enum ExprResolver {
     Call((<String as Archive>::Resolver, (VecResolver, ()))),
 }
 
+// Writes a variant of a field over zeros: its tag, and behind it the fields.
+#[inline(always)]
+fn resolve_expr_1<A: Archive>(
+    tag: u8,
+    a: &A,
+    resolvers: (A::Resolver, ()),
+    place: Place<'_, ArchivedExpr>,
+) -> Result<(), Error>
+    requires variant { variant_at expr_variants tag ≡ Some (part A.Archived.shape no_part) }
+    requires definitions { variant_definitions expr_variant_definitions tag
+        ≡ (both A.Archived.definitions no_definition) }
+    requires inside { Unit {0} → (up 1 A.Archived.layout.align + A.Archived.layout.size) ≤ 24 }
+    requires zeroed { ZeroedPlace 24 place.pos place.bytes.now }
+    requires same_values { (A.belongs a.now resolvers.0 × Unit {0}) }
+    ensures resolved { OnOk result (Resolves expr_definitions place.entry.pos place.exit.0.now
+        expr_shape (case tag (value (A.flat a.now resolvers.0) no_value))) }
+    ensures same_length { length place.exit.0.now ≡ length place.entry.bytes.now }
+    ensures refused { IfErr result (HindersAt expr_definitions expr_shape
+        (case tag (value (A.flat a.now resolvers.0) no_value)) place.entry.pos) }
+{
+    let Place { bytes, pos, .. } = place;
+    bytes[0] = tag;
+    resolve_1(a, resolvers, pos, 1, &mut bytes[1..])
+}
+
+// Writes a variant of 2 fields over zeros: its tag, and behind it the fields.
+#[inline(always)]
+fn resolve_expr_2<A: Archive, B: Archive>(
+    tag: u8,
+    a: &A,
+    b: &B,
+    resolvers: (A::Resolver, (B::Resolver, ())),
+    place: Place<'_, ArchivedExpr>,
+) -> Result<(), Error>
+    requires variant { variant_at expr_variants tag ≡ Some
+        (part A.Archived.shape (part B.Archived.shape no_part)) }
+    requires definitions { variant_definitions expr_variant_definitions tag
+        ≡ (both A.Archived.definitions (both B.Archived.definitions no_definition)) }
+    requires inside { Unit {0} → (up (up 1 A.Archived.layout.align + A.Archived.layout.size)
+        B.Archived.layout.align + B.Archived.layout.size) ≤ 24 }
+    requires zeroed { ZeroedPlace 24 place.pos place.bytes.now }
+    requires same_values { (A.belongs a.now resolvers.0
+        × (B.belongs b.now resolvers.1.0 × Unit {0})) }
+    ensures resolved { OnOk result (Resolves expr_definitions place.entry.pos place.exit.0.now
+        expr_shape (case tag (value (A.flat a.now resolvers.0)
+        (value (B.flat b.now resolvers.1.0) no_value)))) }
+    ensures same_length { length place.exit.0.now ≡ length place.entry.bytes.now }
+    ensures refused { IfErr result (HindersAt expr_definitions expr_shape
+        (case tag (value (A.flat a.now resolvers.0) (value (B.flat b.now resolvers.1.0) no_value)))
+        place.entry.pos) }
+{
+    let Place { bytes, pos, .. } = place;
+    bytes[0] = tag;
+    resolve_2(a, b, resolvers, pos, 1, &mut bytes[1..])
+}
+
 impl Archive for Expr {
     ghost use Rattle.recursive_types.specs.ExprMeaning.{expr_meaning, expr_flat, expr_keys, expr_belongs, expr_keyed, expr_planned};
 
@@ -220,7 +278,7 @@ impl Archive for Expr {
                 let ExprResolver::Num(kept) = resolver else {
                     unreachable!();
                 };
-                resolve_named_case_1::<i64, ArchivedExpr>(0, a0, kept, Place::new(pos, bytes))
+                resolve_expr_1::<i64>(0, a0, kept, Place::new(pos, bytes))
             }
             Expr::Add(_a0, _a1) => {
                 let ExprResolver::Add(kept) = resolver else {
@@ -228,7 +286,7 @@ impl Archive for Expr {
                 };
                 let h0: BoxAt<ArchivedExpr> = BoxAt::new();
                 let h1: BoxAt<ArchivedExpr> = BoxAt::new();
-                resolve_named_case_2::<BoxAt<ArchivedExpr>, BoxAt<ArchivedExpr>, ArchivedExpr>(
+                resolve_expr_2::<BoxAt<ArchivedExpr>, BoxAt<ArchivedExpr>>(
                     1,
                     &h0,
                     &h1,
@@ -241,7 +299,7 @@ impl Archive for Expr {
                     unreachable!();
                 };
                 let h1: VecAt<ArchivedExpr> = VecAt::of(a1.len());
-                resolve_named_case_2::<String, VecAt<ArchivedExpr>, ArchivedExpr>(
+                resolve_expr_2::<String, VecAt<ArchivedExpr>>(
                     2,
                     a0,
                     &h1,

@@ -12,34 +12,36 @@ pub enum List {
 // Below this line all is written by tools/derive: change what is above it, and run it again.
 
 ghost use Rattle.archive_core.specs.CallOutcomes.{ResolvesAs};
-ghost use Rattle.archive_core.specs.Causes.{IsRefused};
+ghost use Rattle.archive_core.specs.Causes.{HindersAt, IsRefused};
 ghost use Rattle.archive_core.specs.Chains.{HeadIsRead, IsWrittenUpTo};
-ghost use Rattle.archive_core.specs.Definitions.{no_definition};
+ghost use Rattle.archive_core.specs.Definitions.{both, no_definition};
 ghost use Rattle.archive_core.specs.Expressed.{ExpressesParts, ExpressesVariants};
+ghost use Rattle.archive_core.specs.Layout.{up};
+ghost use Rattle.archive_core.specs.OwnChoices.{variant_definitions};
 ghost use Rattle.archive_core.specs.Payloads.{payload_in};
 ghost use Rattle.archive_core.specs.PlannedOwners.{one_planned};
 ghost use Rattle.archive_core.specs.ReadBack.{Read, ReadsAs};
 ghost use Rattle.archive_core.specs.SealOutcomes.{IsSealOf, SealsPart, seal_tag};
 ghost use Rattle.archive_core.specs.Seen.{IsPartOf, RefusesPart, ShowsValueOf, part_tag, tag_of};
-ghost use Rattle.archive_core.specs.Shape.{one, part, parts, variant};
+ghost use Rattle.archive_core.specs.Shape.{no_part, one, part, parts, variant, variant_at};
 ghost use Rattle.archive_core.specs.Value.{case, no_value, value};
-ghost use Rattle.archive_core.specs.Writing.{ZeroedPlace};
+ghost use Rattle.archive_core.specs.Writing.{Resolves, ZeroedPlace};
 ghost use Rattle.archive_core.specs.Written.{GoesOn};
 ghost use Rattle.recursive_types.specs.ListMeaning.{list_around, list_keys_around};
-ghost use Rattle.recursive_types.specs.ListShape.{list_chain_known, list_checked, list_cons_parts, list_definitions, list_has_layout, list_has_variants, list_is_align, list_layout, list_name, list_no_others, list_shape, list_variants};
+ghost use Rattle.recursive_types.specs.ListShape.{list_chain_known, list_checked, list_cons_parts, list_definitions, list_has_layout, list_has_variants, list_is_align, list_layout, list_name, list_no_others, list_shape, list_variant_definitions, list_variants};
 ghost use Rattle.std.proofs.Common.{lit≤};
-ghost use Rattle.std.specs.Prelude.{IfErr, IfOk, None, Some, [], refl, ℕ, ◌++◌, ◌+◌, ◌≡◌, ◌≤◌};
+ghost use Rattle.std.specs.Prelude.{IfErr, IfOk, None, OnOk, Some, [], length, refl, ℕ, ◌++◌, ◌+◌, ◌≡◌, ◌≤◌};
 
 use archive_core::boxed::{ArchivedBox, BoxResolver};
 use archive_core::error::Error;
+use archive_core::fields::{resolve_0, resolve_2};
 use archive_core::place::Place;
 use archive_core::primitive::ArchivedU32;
 use archive_core::recursive::{
     BoxAt, Chain, ChainBack, ChainCheck, ChainSource, ReadHead, Rest, WrittenHead,
     boxed_expression, define_choice, expression_of, first_expression, first_variant,
     named_expression, no_expressions, no_variants, part_of_variant, read_chain, read_part,
-    resolve_named_case_0, resolve_named_case_2, seal_of_payload, serialize_chain, serialize_part,
-    tag_of_choice, tag_of_view, view_of_payload,
+    seal_of_payload, serialize_chain, serialize_part, tag_of_choice, tag_of_view, view_of_payload,
 };
 use archive_core::seal::Seal;
 use archive_core::ser::{ResolverAlloc, Writer, serialize_one};
@@ -149,6 +151,56 @@ pub enum ListResolver {
     Cons((<u32 as Archive>::Resolver, (BoxResolver, ()))),
 }
 
+// Writes a variant of no field over zeros: its tag, and behind it the fields.
+#[inline(always)]
+fn resolve_list_0(tag: u8, resolvers: (), place: Place<'_, ArchivedList>) -> Result<(), Error>
+    requires variant { variant_at list_variants tag ≡ Some no_part }
+    requires definitions { variant_definitions list_variant_definitions tag ≡ no_definition }
+    requires inside { Unit {0} → 1 ≤ 12 }
+    requires zeroed { ZeroedPlace 12 place.pos place.bytes.now }
+    requires same_values { Unit {0} }
+    ensures resolved { OnOk result (Resolves list_definitions place.entry.pos place.exit.0.now
+        list_shape (case tag no_value)) }
+    ensures same_length { length place.exit.0.now ≡ length place.entry.bytes.now }
+    ensures refused { IfErr result (HindersAt list_definitions list_shape (case tag no_value)
+        place.entry.pos) }
+{
+    let Place { bytes, pos, .. } = place;
+    bytes[0] = tag;
+    resolve_0(resolvers, pos, 1, &mut bytes[1..])
+}
+
+// Writes a variant of 2 fields over zeros: its tag, and behind it the fields.
+#[inline(always)]
+fn resolve_list_2<A: Archive, B: Archive>(
+    tag: u8,
+    a: &A,
+    b: &B,
+    resolvers: (A::Resolver, (B::Resolver, ())),
+    place: Place<'_, ArchivedList>,
+) -> Result<(), Error>
+    requires variant { variant_at list_variants tag ≡ Some
+        (part A.Archived.shape (part B.Archived.shape no_part)) }
+    requires definitions { variant_definitions list_variant_definitions tag
+        ≡ (both A.Archived.definitions (both B.Archived.definitions no_definition)) }
+    requires inside { Unit {0} → (up (up 1 A.Archived.layout.align + A.Archived.layout.size)
+        B.Archived.layout.align + B.Archived.layout.size) ≤ 12 }
+    requires zeroed { ZeroedPlace 12 place.pos place.bytes.now }
+    requires same_values { (A.belongs a.now resolvers.0
+        × (B.belongs b.now resolvers.1.0 × Unit {0})) }
+    ensures resolved { OnOk result (Resolves list_definitions place.entry.pos place.exit.0.now
+        list_shape (case tag (value (A.flat a.now resolvers.0)
+        (value (B.flat b.now resolvers.1.0) no_value)))) }
+    ensures same_length { length place.exit.0.now ≡ length place.entry.bytes.now }
+    ensures refused { IfErr result (HindersAt list_definitions list_shape
+        (case tag (value (A.flat a.now resolvers.0) (value (B.flat b.now resolvers.1.0) no_value)))
+        place.entry.pos) }
+{
+    let Place { bytes, pos, .. } = place;
+    bytes[0] = tag;
+    resolve_2(a, b, resolvers, pos, 1, &mut bytes[1..])
+}
+
 impl Archive for List {
     ghost use Rattle.recursive_types.specs.ListMeaning.{list_meaning, list_flat, list_keys, list_belongs, list_keyed, list_planned};
 
@@ -183,19 +235,13 @@ impl Archive for List {
     {
         let Place { bytes, pos, .. } = place;
         match self {
-            List::Nil => { resolve_named_case_0::<ArchivedList>(0, (), Place::new(pos, bytes)) }
+            List::Nil => { resolve_list_0(0, (), Place::new(pos, bytes)) }
             List::Cons(a0, _a1) => {
                 let ListResolver::Cons(kept) = resolver else {
                     unreachable!();
                 };
                 let h1: BoxAt<ArchivedList> = BoxAt::new();
-                resolve_named_case_2::<u32, BoxAt<ArchivedList>, ArchivedList>(
-                    1,
-                    a0,
-                    &h1,
-                    kept,
-                    Place::new(pos, bytes),
-                )
+                resolve_list_2::<u32, BoxAt<ArchivedList>>(1, a0, &h1, kept, Place::new(pos, bytes))
             }
         }
     }

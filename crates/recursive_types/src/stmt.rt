@@ -14,10 +14,12 @@ pub enum Stmt {
 // Below this line all is written by tools/derive: change what is above it, and run it again.
 
 ghost use Rattle.archive_core.specs.CallOutcomes.{ResolvesAs};
-ghost use Rattle.archive_core.specs.Causes.{IsRefused};
-ghost use Rattle.archive_core.specs.Definitions.{ExplainsConflict, Extended, defines};
+ghost use Rattle.archive_core.specs.Causes.{HindersAt, IsRefused};
+ghost use Rattle.archive_core.specs.Definitions.{ExplainsConflict, Extended, both, defines, no_definition};
 ghost use Rattle.archive_core.specs.Expressed.{ExpressesParts, ExpressesVariants};
 ghost use Rattle.archive_core.specs.Expressions.{table_of};
+ghost use Rattle.archive_core.specs.Layout.{up};
+ghost use Rattle.archive_core.specs.OwnChoices.{variant_definitions};
 ghost use Rattle.archive_core.specs.Payloads.{payload_in};
 ghost use Rattle.archive_core.specs.PlannedOwners.{one_planned};
 ghost use Rattle.archive_core.specs.Plans.{Serialized};
@@ -26,23 +28,23 @@ ghost use Rattle.archive_core.specs.Runs.{EachBelongs, IsRunRefused, SerializedR
 ghost use Rattle.archive_core.specs.SealOutcomes.{IsSealOf, SealsPart, seal_tag};
 ghost use Rattle.archive_core.specs.Seen.{IsPartOf, RefusesPart, ShowsValueOf, part_tag, tag_of};
 ghost use Rattle.archive_core.specs.SelfCheck.Laws.{by_schema};
-ghost use Rattle.archive_core.specs.Shape.{one, part, parts, variant, vec};
+ghost use Rattle.archive_core.specs.Shape.{no_part, one, part, parts, variant, variant_at, vec};
 ghost use Rattle.archive_core.specs.Value.{case, no_value, value};
-ghost use Rattle.archive_core.specs.Writing.{ZeroedPlace};
+ghost use Rattle.archive_core.specs.Writing.{Resolves, ZeroedPlace};
 ghost use Rattle.archive_core.specs.Written.{GoesOn};
-ghost use Rattle.recursive_types.specs.StmtShape.{stmt_block_parts, stmt_definitions, stmt_has_layout, stmt_has_variants, stmt_is_align, stmt_layout, stmt_name, stmt_no_others, stmt_set_parts, stmt_shape, stmt_stands_for, stmt_variants};
+ghost use Rattle.recursive_types.specs.StmtShape.{stmt_block_parts, stmt_definitions, stmt_has_layout, stmt_has_variants, stmt_is_align, stmt_layout, stmt_name, stmt_no_others, stmt_set_parts, stmt_shape, stmt_stands_for, stmt_variant_definitions, stmt_variants};
 ghost use Rattle.std.proofs.Common.{lit≤};
-ghost use Rattle.std.specs.Prelude.{IfErr, IfOk, None, OnOk, [], length, refl, ℕ, ◌++◌, ◌+◌, ◌≡◌, ◌≤◌};
+ghost use Rattle.std.specs.Prelude.{IfErr, IfOk, None, OnOk, Some, [], length, refl, ℕ, ◌++◌, ◌+◌, ◌≡◌, ◌≤◌};
 
 use crate::expr::ArchivedExpr;
 use archive_core::error::Error;
+use archive_core::fields::{resolve_1, resolve_2};
 use archive_core::option::ArchivedOption;
 use archive_core::place::Place;
 use archive_core::recursive::{
     VecAt, before_vec, define_choice, expression_of, first_expression, first_variant, handed_on,
-    named_expression, no_expressions, no_variants, part_of_variant, read_part,
-    resolve_named_case_1, resolve_named_case_2, seal_of_payload, serialize_part, serialize_run,
-    tag_of_choice, tag_of_view, vec_expression, view_of_payload,
+    named_expression, no_expressions, no_variants, part_of_variant, read_part, seal_of_payload,
+    serialize_part, serialize_run, tag_of_choice, tag_of_view, vec_expression, view_of_payload,
 };
 use archive_core::seal::Seal;
 use archive_core::self_check::BySchema;
@@ -196,6 +198,62 @@ pub enum StmtResolver {
     Block((VecResolver, ())),
 }
 
+// Writes a variant of a field over zeros: its tag, and behind it the fields.
+#[inline(always)]
+fn resolve_stmt_1<A: Archive>(
+    tag: u8,
+    a: &A,
+    resolvers: (A::Resolver, ()),
+    place: Place<'_, ArchivedStmt>,
+) -> Result<(), Error>
+    requires variant { variant_at stmt_variants tag ≡ Some (part A.Archived.shape no_part) }
+    requires definitions { variant_definitions stmt_variant_definitions tag
+        ≡ (both A.Archived.definitions no_definition) }
+    requires inside { Unit {0} → (up 1 A.Archived.layout.align + A.Archived.layout.size) ≤ 64 }
+    requires zeroed { ZeroedPlace 64 place.pos place.bytes.now }
+    requires same_values { (A.belongs a.now resolvers.0 × Unit {0}) }
+    ensures resolved { OnOk result (Resolves stmt_definitions place.entry.pos place.exit.0.now
+        stmt_shape (case tag (value (A.flat a.now resolvers.0) no_value))) }
+    ensures same_length { length place.exit.0.now ≡ length place.entry.bytes.now }
+    ensures refused { IfErr result (HindersAt stmt_definitions stmt_shape
+        (case tag (value (A.flat a.now resolvers.0) no_value)) place.entry.pos) }
+{
+    let Place { bytes, pos, .. } = place;
+    bytes[0] = tag;
+    resolve_1(a, resolvers, pos, 1, &mut bytes[1..])
+}
+
+// Writes a variant of 2 fields over zeros: its tag, and behind it the fields.
+#[inline(always)]
+fn resolve_stmt_2<A: Archive, B: Archive>(
+    tag: u8,
+    a: &A,
+    b: &B,
+    resolvers: (A::Resolver, (B::Resolver, ())),
+    place: Place<'_, ArchivedStmt>,
+) -> Result<(), Error>
+    requires variant { variant_at stmt_variants tag ≡ Some
+        (part A.Archived.shape (part B.Archived.shape no_part)) }
+    requires definitions { variant_definitions stmt_variant_definitions tag
+        ≡ (both A.Archived.definitions (both B.Archived.definitions no_definition)) }
+    requires inside { Unit {0} → (up (up 1 A.Archived.layout.align + A.Archived.layout.size)
+        B.Archived.layout.align + B.Archived.layout.size) ≤ 64 }
+    requires zeroed { ZeroedPlace 64 place.pos place.bytes.now }
+    requires same_values { (A.belongs a.now resolvers.0
+        × (B.belongs b.now resolvers.1.0 × Unit {0})) }
+    ensures resolved { OnOk result (Resolves stmt_definitions place.entry.pos place.exit.0.now
+        stmt_shape (case tag (value (A.flat a.now resolvers.0)
+        (value (B.flat b.now resolvers.1.0) no_value)))) }
+    ensures same_length { length place.exit.0.now ≡ length place.entry.bytes.now }
+    ensures refused { IfErr result (HindersAt stmt_definitions stmt_shape
+        (case tag (value (A.flat a.now resolvers.0) (value (B.flat b.now resolvers.1.0) no_value)))
+        place.entry.pos) }
+{
+    let Place { bytes, pos, .. } = place;
+    bytes[0] = tag;
+    resolve_2(a, b, resolvers, pos, 1, &mut bytes[1..])
+}
+
 impl Archive for Stmt {
     ghost use Rattle.recursive_types.specs.StmtMeaning.{stmt_meaning, stmt_flat, stmt_keys, stmt_belongs, stmt_keyed, stmt_planned};
 
@@ -234,25 +292,14 @@ impl Archive for Stmt {
                 let StmtResolver::Set(kept) = resolver else {
                     unreachable!();
                 };
-                resolve_named_case_2::<Expr, Option<Expr>, ArchivedStmt>(
-                    0,
-                    a0,
-                    a1,
-                    kept,
-                    Place::new(pos, bytes),
-                )
+                resolve_stmt_2::<Expr, Option<Expr>>(0, a0, a1, kept, Place::new(pos, bytes))
             }
             Stmt::Block(a0) => {
                 let StmtResolver::Block(kept) = resolver else {
                     unreachable!();
                 };
                 let h0: VecAt<ArchivedStmt> = VecAt::of(a0.len());
-                resolve_named_case_1::<VecAt<ArchivedStmt>, ArchivedStmt>(
-                    1,
-                    &h0,
-                    kept,
-                    Place::new(pos, bytes),
-                )
+                resolve_stmt_1::<VecAt<ArchivedStmt>>(1, &h0, kept, Place::new(pos, bytes))
             }
         }
     }

@@ -11,7 +11,7 @@ other have one, in which the toolchain puts enums before structs and each in the
 import re
 
 from .. import records, variants, variant_views
-from . import lent, weak
+from . import by_number, lent, weak
 from . import arrays
 from . import chains
 from . import expressions
@@ -49,7 +49,7 @@ READ_ROWS = """    requires {{ IsPartOf ⟦<{X} as ArchivePointee>⟧ part }}
 def text(it):
     bring(it)
     pieces = [types(it), pointee(it), "\n".join(row_format(it, type) for type in it.rows), "" if it.is_holder else stands_for(it), portable(it), view_of(it), resolvers.resolver(it)]
-    pieces += [boxed_slices(it), weak.calls(it), shared_pointers(it), lent.text(it)]
+    pieces += [boxed_slices(it), weak.calls(it), shared_pointers(it), lent.text(it), by_number.text(it)]
     pieces += [slices.hollow_slices(it), tuples.hollow_tuples(it, resolvers.kept, resolvers.hollow), arrays.calls(it), arrays.hollow_arrays(it, resolvers.kept, hollow_source), resolvers.archive(it)]
     if it.is_chain:
         chains.refuse_derived_drop(it.declaration)

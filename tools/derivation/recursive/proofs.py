@@ -3,7 +3,7 @@
 
 from . import arrays
 from . import chain_proofs as chains
-from . import expressions, hollow, lent, resolve_proofs, slices, weak
+from . import by_number, expressions, hollow, lent, resolve_proofs, slices, weak
 from .specs import owns
 from .term_words import brought, places, stem
 from . import write_proofs
@@ -292,6 +292,7 @@ def files(family):
     out = {} if family.first.is_simple else defining_all(family)
     for it in family.members:
         out.update(lent.files(it))
+        out.update(by_number.files(it))
         if not it.is_holder:
             out.update(defining(it))
             out.update(hollow.files(it))

@@ -1,14 +1,21 @@
-"""The answers on `resolve` of enums."""
+"""The answers on `resolve`."""
 
-from . import proofs, resolved, resolvers
+from . import proofs, resolved, resolvers, weak
 from .refusals import keeps_memory
 
 
 def files(it):
-    """None for records, for what holds recursive types, and where a variant's fields are lent to a call of the module."""
-    if it.is_record or it.is_holder or len(it.cases) < 2 or any(case.is_long for case in it.cases) or is_split(it):
-        return {}
+    """None where a variant's fields are lent to a call of the module."""
     answers = proofs.Answers(it.family, f"{it.name}Archive/resolve")
+    if any(case.is_long for case in it.cases):
+        return {}
+    if it.is_record:
+        if not resolved.is_told(it) or weak.is_resolved(it):
+            return {}
+        answers.answer("", "returns", resolved.record(it), "g")
+        return answers.files()
+    if len(it.cases) < 2 or is_split(it):
+        return {}
     ends = resolved.arms(it) if resolved.is_told(it) else [end(it, case) for case in it.cases]
     arms = "".join(f"  | {arm(case)} w ↦ {its}\n" for case, its in zip(it.cases, ends))
     answers.answer("", "returns", f"elim g.match-self.branch [\n{arms}]", "g")

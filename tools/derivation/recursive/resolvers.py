@@ -1,7 +1,6 @@
 """Resolvers of recursive types, and how their values are resolved."""
 
-from . import lent
-from . import arrays
+from . import arrays, by_number, lent
 from . import maps
 from . import slices
 from . import tuples
@@ -10,7 +9,7 @@ from ..common import kept_of as handed_on
 from .hollow import shared_at
 from .plain import items_of
 from .term_words import has_elements, is_map, is_run
-from ..layout import Generic, Group, flat, literal, pair, statement
+from ..layout import Generic, Group, call, flat, literal, pair, statement
 from . import code
 
 
@@ -160,14 +159,22 @@ def bound(it, case):
     return [name if here or not back else f"_{name}" for name, here, back in zip(case.names, is_read, case.leads_back)]
 
 
+def by_name(it, case, rust, arguments):
+    """The call by which a variant is resolved whose fields are of these types."""
+    if not by_number.goes(it):
+        it.formats.use("archive_core::recursive", f"resolve_named_case_{case.count}")
+        return Generic(f"resolve_named_case_{case.count}", rust + [it.archived], arguments)
+    function = by_number.name(it, case.count)
+    return Generic(function, rust, arguments) if rust else call(function, arguments)
+
+
 def resolve_arm(it, case):
     rust, values, lines = hollows(it, case)
     kept_ = handed_on(it.formats, case.types)
     if case.is_long:
         resolved = lent.call(it, case, values, kept_, 16)
     else:
-        it.formats.use("archive_core::recursive", f"resolve_named_case_{case.count}")
-        resolved = statement(16, "", Generic(f"resolve_named_case_{case.count}", rust + [it.archived], [str(case.tag)] + values + [kept_, "Place::new(pos, bytes)"]), "")
+        resolved = statement(16, "", by_name(it, case, rust, [str(case.tag)] + values + [kept_, "Place::new(pos, bytes)"]), "")
     opened = f"let {it.resolver}::{case.name}(kept) = resolver" if case.count else f"let {it.resolver}::{case.name} = resolver"
     other = " else {\n                    unreachable!();\n                }" if len(it.cases) > 1 else ""
     if not case.count:

@@ -399,11 +399,16 @@ returns c = record {
 """
 
 
+def is_resolved(it):
+    """Whether there is an answer here on how it is resolved: for structs of families."""
+    return it.is_record and len(it.family.members) > 1 and any(it.terms.is_weak(field.type) for field in it.declaration.all_fields())
+
+
 def files(it):
     """The answers on these calls, by their paths."""
     crate, module = it.declaration.crate, it.declaration.module
     here, folder = ".".join((crate, "proofs") + tuple(module)), "/".join(("proofs",) + tuple(module))
     each = {"begin_target": BEGUN, "finish_target": FINISHED} if is_first(it) else {}
-    if it.is_record and len(it.family.members) > 1 and any(it.terms.is_weak(field.type) for field in it.declaration.all_fields()):
+    if is_resolved(it):
         each[f"{it.name}Archive/resolve"] = RESOLVED.replace("DECLARED", it.family.declared(it.name)).replace("NAME", it.name)
     return {f"{folder}/{name}/Answers.antt": f"-- {it.written}\n{text.replace('HERE', here)}" for name, text in each.items()}

@@ -24,8 +24,13 @@ class ResolveProofs(RepositoryTest):
         text = self.answers("use std::collections::BTreeMap;\n#[derive(Drop)]\npub enum A { Num(i64), All(BTreeMap<String, A>) }", "A")
         self.assertIn("  | in-Num+in-Num-resolver w ↦ rw (w.in-Num.is, w.in-Num-resolver.is, a_num_opens w.in-Num.a0, w.bytes-is, w.result-is) (search rules)\n", text)
 
-    def test_a_record_has_none(self):
-        self.assertIsNone(self.answers("#[derive(Drop)]\npub struct A { x: u8, y: Vec<A> }", "A"))
+    def test_a_struct_has_one_call(self):
+        text = self.answers("#[derive(Drop)]\npub struct A { x: u8, y: Vec<A>, z: Vec<A> }", "A")
+        self.assertIn("let same2 : g.of-h2.result.len ≡ length (out-A g.args.self.now).z.items = grind (arith, g.of-h2.ensures, g.len-2.ensures) in", text)
+        self.assertIn("let there = rw (same1, same2, g.new.ensures.position) at g.resolve_named_record_3.ensures in record { resolved = search (rules, there.resolved);", text)
+
+    def test_a_struct_with_a_map_is_left_to_the_search(self):
+        self.assertIsNone(self.answers("use std::collections::BTreeMap;\n#[derive(Drop)]\npub struct A { x: u8, y: BTreeMap<String, A> }", "A"))
 
     def test_none_where_what_is_kept_is_let_go_by_variants(self):
         head = "#[derive(Drop)]\npub struct P { x: [u8; 3] }\n#[derive(Drop)]\npub enum A {"

@@ -1,4 +1,4 @@
-"""Answers on how enums are resolved: what the call of each variant says."""
+"""Answers on how recursive types are resolved: what the call for the struct, or for each variant, says."""
 
 import os
 

@@ -7,6 +7,6 @@ use Rattle.own_types.proofs.node.NodeArchive.resolve.Goals.{in-Nil, in-Cons+in-C
 
 pub returns : goal.returns
 returns g = elim g.match-self.branch [
-  | in-Nil w ↦ let after : g.match-self.bytes ≡ w.resolve_named_case_0.new.place.0 = search rules in let there = rw (w.new.ensures.position) at w.resolve_named_case_0.ensures in rw (w.in-Nil.is, node_nil_opens, after, w.result-is) (record { resolved = there.resolved; refused = there.refused; same_length = search rules })
-  | in-Cons+in-Cons-resolver w ↦ let after : g.match-self.bytes ≡ w.resolve_named_case_1.new.place.0 = search rules in let there = rw (w.new-in-Cons.ensures.position) at w.resolve_named_case_1.ensures in rw (w.in-Cons.is, w.in-Cons-resolver.is, node_cons_opens w.in-Cons._a0, after, w.result-is) (record { resolved = there.resolved; refused = there.refused; same_length = search rules })
+  | in-Nil w ↦ let after : g.match-self.bytes ≡ w.resolve_node_0.new.place.0 = search rules in let there = rw (w.new.ensures.position) at w.resolve_node_0.ensures in rw (w.in-Nil.is, node_nil_opens, after, w.result-is) (record { resolved = there.resolved; refused = there.refused; same_length = search rules })
+  | in-Cons+in-Cons-resolver w ↦ let after : g.match-self.bytes ≡ w.resolve_node_1.new.place.0 = search rules in let there = rw (w.new-in-Cons.ensures.position) at w.resolve_node_1.ensures in rw (w.in-Cons.is, w.in-Cons-resolver.is, node_cons_opens w.in-Cons._a0, after, w.result-is) (record { resolved = there.resolved; refused = there.refused; same_length = search rules })
 ]
