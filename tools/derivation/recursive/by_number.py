@@ -129,6 +129,7 @@ def answers(it, count, dotted):
     from .proofs import ON_OK
 
     n, its = it.n, f"c.resolve_{count}"
+    args = "g c" if count else "c"  # the first is of the impls that it is passed
     whole = f"{n}_has_variants c.args.tag _ c.requires.variant _ c.requires.definitions _ c.args.place.pos"
     zeroed = f"""
 pub resolve_{count}-requires-clause-zeroed : goal.resolve_{count}-requires-clause-zeroed
@@ -136,7 +137,7 @@ resolve_{count}-requires-clause-zeroed g c = zeroed_case _ _ _ c.args.tag _ (c.r
 """
     body = f"""{ON_OK}{zeroed if count else ""}
 pub returns-clause-resolved : goal.returns-clause-resolved
-returns-clause-resolved g c =
+returns-clause-resolved {args} =
     let old = c.args.place.bytes.now in
     let tagged = slice_set old 0 c.args.tag in
     let new = {its}.new.bytes in
@@ -149,7 +150,7 @@ returns-clause-resolved g c =
     {its}.ensures.resolved
 
 pub returns-clause-refused : goal.returns-clause-refused
-returns-clause-refused g c = err_from {its}.result {its}.ensures.refused (λ e h. variant_hindered _ _ _ _ _ {whole} e h)
+returns-clause-refused {args} = err_from {its}.result {its}.ensures.refused (λ e h. variant_hindered _ _ _ _ _ {whole} e h)
 """
     more = CITED + [(f"{it.family.crate}.specs.{it.family.name}Shape", f"{n}_has_variants {n}_layout {n}_has_layout")]
     return f"-- {it.written}\n{brought(body, more)}use Rattle.{dotted}.{name(it, count)}.Goals as goal\n\n{body}"

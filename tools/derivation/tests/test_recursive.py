@@ -168,7 +168,7 @@ class Recursive(RepositoryTest):
         path = self.put(f"#[derive(Drop)]\npub enum Item {{ Number(u32), Items(Vec<Item>, {', '.join(['u8'] * 7)}) }}\n")
         self.assertEqual(self.run_command(path), (0, ""))
         text = self.text(path)
-        for word in ("fn resolve_lent_item<T, P: SourceParts<T>>(", "resolve_named_case_1::<u32, ArchivedItem>(", "let lent = ItemItemsLent {", "a0: &h0,"):
+        for word in ("fn resolve_lent_item<T, P: SourceParts<T>>(", "resolve_item_1::<u32>(", "let lent = ItemItemsLent {", "a0: &h0,"):
             self.assertIn(word, text)
         self.assertIn("item_has_variants c.args.tag", self.beside("proofs", "types", "resolve_lent_item", "Answers.antt"))
 

@@ -14,7 +14,7 @@ class ResolveProofs(RepositoryTest):
 
     def test_each_variant_has_an_arm(self):
         text = self.answers("#[derive(Drop)]\npub enum A { Nil, Num(i64), Add(Box<A>, Box<A>), Call(String, Vec<A>) }", "A")
-        self.assertIn("  | in-Nil w ↦ let after : g.match-self.bytes ≡ w.resolve_named_case_0.new.place.0 = search rules in", text)
+        self.assertIn("  | in-Nil w ↦ let after : g.match-self.bytes ≡ w.resolve_a_0.new.place.0 = search rules in", text)
         self.assertIn("rw (w.in-Nil.is, a_nil_opens, after, w.result-is)", text)
         self.assertIn("rw (w.in-Add.is, w.in-Add-resolver.is, a_add_opens w.in-Add._a0 w.in-Add._a1, after, w.result-is)", text)
         self.assertIn("rw (w.in-Call.is, w.in-Call-resolver.is, a_call_opens w.in-Call.a0 w.in-Call.a1, after, w.result-is)", text)

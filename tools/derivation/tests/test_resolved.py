@@ -28,7 +28,7 @@ class Resolved(RepositoryTest):
         path = self.put(OAK)
         self.assertEqual(self.run_command(path), (0, ""))
         answers = self.answers("Oak")
-        for word in ("rw (w.in-Leaf.is, oak_leaf_opens, after, w.result-is)", "w.of-h0.result.len ≡ length w.in-Options.a0.items", "rw (same0, w.new-in-Options.ensures.position) at w.resolve_named_case_1.ensures"):
+        for word in ("rw (w.in-Leaf.is, oak_leaf_opens, after, w.result-is)", "w.of-h0.result.len ≡ length w.in-Options.a0.items", "rw (same0, w.new-in-Options.ensures.position) at w.resolve_oak_1.ensures"):
             self.assertIn(word, answers)
         self.assertIn("rw (w.in-Options.is, w.in-Options-resolver.is, oak_options_opens w.in-Options.a0, after, w.result-is)", answers)
         self.assertEqual(self.run_command("--check", path), (0, ""))
@@ -38,8 +38,8 @@ class Resolved(RepositoryTest):
         answers = self.answers("Mix")
         self.assertIn("w.of-h0.result.len ≡ length w.in-All.a0.items = grind (arith, w.of-h0.ensures, w.len.ensures)", answers)
         self.assertIn("w.of-h1.result.len ≡ length w.in-Both.a1.items = grind (arith, w.of-h1.ensures, w.len-in-Both.ensures)", answers)
-        self.assertIn("w.resolve_named_case_2.new.place.0", answers)
-        self.assertIn("let there = rw (w.new-in-One.ensures.position) at w.resolve_named_case_1-in-One.ensures", answers)
+        self.assertIn("w.resolve_mix_2.new.place.0", answers)
+        self.assertIn("let there = rw (w.new-in-One.ensures.position) at w.resolve_mix_1-in-One.ensures", answers)
 
     def test_types_without_elements(self):
         self.assertEqual(self.run_command(self.put(TOWN)), (0, ""))

@@ -13,7 +13,7 @@ on_ok (Ok x) f h = f h
 on_ok (Err e) f h = tt
 
 pub returns-clause-resolved : goal.returns-clause-resolved
-returns-clause-resolved g c =
+returns-clause-resolved c =
     let old = c.args.place.bytes.now in
     let tagged = slice_set old 0 c.args.tag in
     let new = c.resolve_0.new.bytes in
@@ -26,4 +26,4 @@ returns-clause-resolved g c =
     c.resolve_0.ensures.resolved
 
 pub returns-clause-refused : goal.returns-clause-refused
-returns-clause-refused g c = err_from c.resolve_0.result c.resolve_0.ensures.refused (λ e h. variant_hindered _ _ _ _ _ node_has_variants c.args.tag _ c.requires.variant _ c.requires.definitions _ c.args.place.pos e h)
+returns-clause-refused c = err_from c.resolve_0.result c.resolve_0.ensures.refused (λ e h. variant_hindered _ _ _ _ _ node_has_variants c.args.tag _ c.requires.variant _ c.requires.definitions _ c.args.place.pos e h)
