@@ -1,5 +1,5 @@
 -- What comes of a record that ends in a run, where the run is opened at once, and of some such records.
-use Rattle.std.proofs.Common.{◌≡◌, ◌∙◌, inr, refl, sym, ℕ, ◌+◌, ◌-◌, ◌<◌, ◌≤◌, arith, List, ◌∷◌, IsTrue, Option, Some, None}
+use Rattle.std.proofs.Common.{◌≡◌, ◌∙◌, inr, refl, sym, ℕ, ◌+◌, ◌-◌, ◌<◌, arith, List, ◌∷◌, IsTrue, Option, Some, None}
 use Rattle.archive_check.specs.declared.format.error.Error.{Error}
 use Rattle.archive_check.specs.context.Ranges.{RangeState}
 use Rattle.archive_check.specs.context.PositionStates.{Positions}

@@ -6,7 +6,7 @@ ghost use Rattle.archive_schema.specs.declared.plan.PointeeKind.TheVariants.{Run
 ghost use Rattle.archive_schema.specs.check.Runs.{IsNode, Takes};
 ghost use Rattle.archive_schema.specs.plan.SoundPlans.{IsSound};
 ghost use Rattle.archive_schema.specs.plan.Shallow.{IsShallowSpan, IsFreeSpan};
-ghost use Rattle.archive_schema.specs.check.Hollow.{IsHollow, IsEmptyAt};
+ghost use Rattle.archive_schema.specs.check.Hollow.{IsHollow, HasAlign, IsEmptyAt};
 ghost use Rattle.archive_schema.specs.check.LoopInvariant.{PartFits, PartsFit, ElementsFit};
 ghost use Rattle.archive_schema.specs.check.Through.{Passes, PassesRegion, PassesFront, node_rule, parts_rule};
 ghost use Rattle.archive_schema.specs.check.Turns.{IsCheckable};
@@ -19,6 +19,7 @@ use crate::check::worklist::Worklist;
 use crate::plan::shallow::{is_span_free, is_span_shallow};
 use crate::plan::{NodeKind, PointeeKind};
 use archive_check::context::ArchiveContext;
+use archive_check::context::regions::enter;
 use archive_check::format::bytes::{read_position, read_u32};
 
 /// A record's parts, of which the last one is a pointer to a run, and the others may be any bytes, or are shallow.
@@ -34,48 +35,53 @@ pub struct Hollow {
     pub node: usize,
     /// The node that it leads to.
     pub pointee: usize,
+    /// That one's alignment.
+    pub align: usize,
     /// Whether the others may be any bytes.
     pub is_free: bool,
 }
 
 impl Checker<'_> {
-    // Checks a region of no elements.
+    /// Checks a region of no elements, of such an alignment.
     #[inline(always)]
-    fn check_empty_region<C: ArchiveContext>(
+    pub fn check_empty_region<C: ArchiveContext>(
         &self,
         pointee: usize,
+        align: usize,
         position: i128,
         work: &mut Worklist,
         context: &mut C,
     ) -> Option<()>
-        requires known { pointee < length self.now.nodes.now }
+        requires align { HasAlign self.now pointee align }
         ensures passes { PassesRegion C.Context self.now RunOf pointee 0 position context work
             result }
         ensures pays { Pays C.Context self.now 4 context work }
     {
-        let region = self.enter_region(PointeeKind::Run, pointee, 0, position, work, context)?;
+        let region = enter(Some(0), align, position, &mut work.fault, context)?;
         leave_region(region.outer_start, region.outer_end, work, context)
     }
 
-    // Checks the pointer at `at` to a run of no elements, whose node this is.
+    // Checks the pointer at `at` to a run of no elements of such an alignment, whose node this is.
     #[inline(always)]
     fn check_empty_run<C: ArchiveContext>(
         &self,
         node: usize,
         at: usize,
         pointee: usize,
+        align: usize,
         work: &mut Worklist,
         context: &mut C,
     ) -> Option<()>
         requires sound { IsSound self.now }
         requires kind { IsNode self.now node (PointerNode RunOf pointee) }
+        requires align { HasAlign self.now pointee align }
         requires empty { IsEmptyAt self.now at }
         requires fits { PartFits self.now node at }
         ensures passes { Passes C.Context (node_rule self.now node at) context work result }
         ensures pays { Pays C.Context self.now (size_at self.now.nodes.now node) context work }
     {
         let position = read_position(self.bytes, at, at);
-        self.check_empty_region(pointee, position, work, context)
+        self.check_empty_region(pointee, align, position, work, context)
     }
 
     // Checks the parts from `first` up to `last`, of what begins at `base`. Each is shallow, and mostly legal as it lies.
@@ -128,7 +134,14 @@ impl Checker<'_> {
         ensures pays { Pays C.Context self.now (size_at self.now.nodes.now node) context work }
     {
         self.check_front(parts.first, parts.end, parts.is_free, at, work, context)?;
-        self.check_empty_run(parts.node, at + parts.offset, parts.pointee, work, context)
+        self.check_empty_run(
+            parts.node,
+            at + parts.offset,
+            parts.pointee,
+            parts.align,
+            work,
+            context,
+        )
     }
 
     // Whether the run of the record at `at`, whose parts these are, has no elements.
@@ -166,6 +179,7 @@ impl Checker<'_> {
         };
         let offset = part.offset;
         let node = part.node;
+        let align = self.nodes[pointee].align;
         if is_span_free(self.nodes, self.parts, first, end) {
             return Some(Hollow {
                 first,
@@ -173,6 +187,7 @@ impl Checker<'_> {
                 offset,
                 node,
                 pointee,
+                align,
                 is_free: true,
             });
         }
@@ -185,6 +200,7 @@ impl Checker<'_> {
             offset,
             node,
             pointee,
+            align,
             is_free: false,
         })
     }

@@ -348,6 +348,9 @@ impl Checker<'_> {
         let Some(parts) = self.hollow(node, size) else {
             return self.open_elements(node, left, at, size, work, context);
         };
+        if parts.is_free && parts.pointee == node {
+            return self.check_trees(node, parts, left, at, size, work, context);
+        }
         let hollow = self.check_hollow(node, parts, left, at, size, work, context)?;
         self.open_records(
             node,
@@ -363,7 +366,7 @@ impl Checker<'_> {
     /// Leaves a region, and before it the `inner` regions in it that end with it: each gives back a
     /// level, and the last one the range.
     #[inline(always)]
-    fn leave_regions<C: ArchiveContext>(
+    pub fn leave_regions<C: ArchiveContext>(
         &self,
         start: usize,
         end: usize,
