@@ -108,7 +108,7 @@ pub front_free : {m : Checker} {a b p : ℕ} {x : Stage} {u : Unit {0}} {fault :
 front_free {m = m} {a = a} {b = b} {p = p} fit free = front_legal {c = b} (λ k from to. part_free m p a b k fit free from to) (omega arith)
 
 -- behind the parts in front
-behind_front : {m : Checker} {a b c p : ℕ} {x y : Stage} → Passed (parts_rule m a b p) x y → a ≤ b → b ≤ c → Towards (parts_rule m a c p) (parts_rule m b c p) x y
+pub behind_front : {m : Checker} {a b c p : ℕ} {x y : Stage} → Passed (parts_rule m a b p) x y → a ≤ b → b ≤ c → Towards (parts_rule m a c p) (parts_rule m b c p) x y
 behind_front passed le more = record {
   end = passed.through.end;
   depth = passed.through.depth;

@@ -17,7 +17,7 @@ use crate::check::Checker;
 use crate::check::regions::leave_region;
 use crate::check::worklist::Worklist;
 use crate::plan::shallow::{is_span_free, is_span_shallow};
-use crate::plan::{NodeKind, PointeeKind};
+use crate::plan::{NodeKind, PointeeKind, Span};
 use archive_check::context::ArchiveContext;
 use archive_check::context::regions::enter;
 use archive_check::format::bytes::{read_position, read_u32};
@@ -42,9 +42,9 @@ pub struct Hollow {
 }
 
 impl Checker<'_> {
-    /// Checks a region of no elements, of such an alignment.
+    // Checks a region of no elements, of such an alignment.
     #[inline(always)]
-    pub fn check_empty_region<C: ArchiveContext>(
+    fn check_empty_region<C: ArchiveContext>(
         &self,
         pointee: usize,
         align: usize,
@@ -84,9 +84,9 @@ impl Checker<'_> {
         self.check_empty_region(pointee, align, position, work, context)
     }
 
-    // Checks the parts from `first` up to `last`, of what begins at `base`. Each is shallow, and mostly legal as it lies.
+    /// Checks the parts from `first` up to `last`, of what begins at `base`. Each is shallow. They are mostly legal as they lie, or one text.
     #[inline(always)]
-    fn check_front<C: ArchiveContext>(
+    pub fn check_front<C: ArchiveContext>(
         &self,
         first: usize,
         last: usize,
@@ -107,6 +107,9 @@ impl Checker<'_> {
         ensures pays { Pays C.Context self.now (bytes_of_parts self.now first last) context work }
     {
         if is_free {
+            return Some(());
+        }
+        if self.check_alone(Span { first, last }, base, work, context)? {
             return Some(());
         }
         if self.first_to_open(first, last, base) >= last {
@@ -205,6 +208,38 @@ impl Checker<'_> {
         })
     }
 
+    /// `check_hollow` of records whose other parts may be any bytes.
+    #[inline(always)]
+    fn check_leaves<C: ArchiveContext>(
+        &self,
+        node: usize,
+        parts: Hollow,
+        count: usize,
+        at: usize,
+        size: usize,
+        work: &mut Worklist,
+        context: &mut C,
+    ) -> Option<usize>
+        requires plan { IsCheckable self.now }
+        requires hollow { IsHollow self.now node parts }
+        requires free { IsTrue parts.is_free }
+        requires fits { ElementsFit self.now node count at }
+        requires size { Takes self.now node size }
+        ensures passes { PassesFront C.Context self.now node count at size context work result }
+        ensures pays { PaysFront C.Context self.now node count context work result }
+    {
+        let bytes = self.bytes;
+        for index in 0..count {
+            let place = at + index * size + parts.offset;
+            if read_u32(bytes, place + 4) != 0 {
+                return Some(index);
+            }
+            let position = read_position(bytes, place, place);
+            self.check_empty_region(parts.pointee, parts.align, position, work, context)?;
+        }
+        Some(count)
+    }
+
     /// Checks the first of the records at `at`, each of `size` bytes, whose parts these are: as many as end in a run of no elements. Returns how many, or `None`
     /// where one is rejected, with the reason in `work`.
     #[inline(always)]
@@ -226,6 +261,9 @@ impl Checker<'_> {
         ensures passes { PassesFront C.Context self.now node count at size context work result }
         ensures pays { PaysFront C.Context self.now node count context work result }
     {
+        if parts.is_free {
+            return self.check_leaves(node, parts, count, at, size, work, context);
+        }
         for index in 0..count {
             let element = at + index * size;
             if !self.is_empty_here(node, parts, element) {

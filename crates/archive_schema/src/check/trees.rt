@@ -1,13 +1,12 @@
 //! Runs of records that end in a run of such records, as a tree's nodes: level by level, and of a level that is begun only the records behind are listed.
 
-ghost use Rattle.std.specs.Prelude.{◌≡◌, ◌∷◌, IsTrue};
+ghost use Rattle.std.specs.Prelude.{◌≡◌, ◌∷◌};
 ghost use Rattle.archive_schema.specs.declared.check.worklist.Work.TheVariants.{Elements as ElementsWork};
 ghost use Rattle.archive_schema.specs.check.Lists.{list_of};
 ghost use Rattle.archive_schema.specs.check.Runs.{Takes};
 ghost use Rattle.archive_schema.specs.check.Hollow.{IsHollow};
-ghost use Rattle.archive_schema.specs.check.LoopInvariant.{ElementsFit, Ready};
-ghost use Rattle.archive_schema.specs.check.Through.{PassesFront};
-ghost use Rattle.archive_schema.specs.check.Paid.{Pays, PaysFront, PaysToRow, bytes_of_elements};
+ghost use Rattle.archive_schema.specs.check.LoopInvariant.{Ready};
+ghost use Rattle.archive_schema.specs.check.Paid.{Pays, PaysToRow, bytes_of_elements};
 ghost use Rattle.archive_schema.specs.check.Turns.{IsCheckable, Turn, TurnToRow, GoesOn, GoesOnToRow};
 
 use crate::check::Checker;
@@ -15,44 +14,11 @@ use crate::check::hollow::Hollow;
 use crate::check::worklist::{Row, Worklist};
 use crate::plan::PointeeKind;
 use archive_check::context::ArchiveContext;
-use archive_check::format::bytes::{read_position, read_u32};
+use archive_check::format::bytes::read_position;
 
 impl Checker<'_> {
-    /// Checks the first of the records at `at`, each of `size` bytes, whose parts these are: as
-    /// many as end in a run of no elements. Returns how many.
-    #[inline(always)]
-    fn check_leaves<C: ArchiveContext>(
-        &self,
-        node: usize,
-        parts: Hollow,
-        count: usize,
-        at: usize,
-        size: usize,
-        work: &mut Worklist,
-        context: &mut C,
-    ) -> Option<usize>
-        requires plan { IsCheckable self.now }
-        requires hollow { IsHollow self.now node parts }
-        requires free { IsTrue parts.is_free }
-        requires fits { ElementsFit self.now node count at }
-        requires size { Takes self.now node size }
-        ensures passes { PassesFront C.Context self.now node count at size context work result }
-        ensures pays { PaysFront C.Context self.now node count context work result }
-    {
-        let bytes = self.bytes;
-        for index in 0..count {
-            let place = at + index * size + parts.offset;
-            if read_u32(bytes, place + 4) != 0 {
-                return Some(index);
-            }
-            let position = read_position(bytes, place, place);
-            self.check_empty_region(parts.pointee, parts.align, position, work, context)?;
-        }
-        Some(count)
-    }
-
-    /// Enters the run of the first of the records at `at`, each of `size` bytes, whose parts these
-    /// are, and leaves the other records. What the run holds comes next.
+    /// Checks the first of the records at `at`, each of `size` bytes, whose parts these are, but for
+    /// its run, which is entered. What that holds comes next; the other records are left.
     #[inline(always)]
     fn enter_first<C: ArchiveContext>(
         &self,
@@ -66,7 +32,6 @@ impl Checker<'_> {
     ) -> Option<Option<Row>>
         requires plan { IsCheckable self.now }
         requires hollow { IsHollow self.now node parts }
-        requires free { IsTrue parts.is_free }
         requires same { parts.pointee ≡ node }
         requires ready { Ready self.now (C.state context.old)
             (ElementsWork node left at ∷ list_of work.old) }
@@ -80,6 +45,7 @@ impl Checker<'_> {
             return Some(None);
         }
         work.more_elements(node, left - 1, at + size)?;
+        self.check_front(parts.first, parts.end, parts.is_free, at, work, context)?;
         let place = at + parts.offset;
         let count = self.count(PointeeKind::Run, place);
         let position = read_position(self.bytes, place, place);
@@ -130,7 +96,6 @@ impl Checker<'_> {
     ) -> Option<Option<Row>>
         requires plan { IsCheckable self.now }
         requires hollow { IsHollow self.now node parts }
-        requires free { IsTrue parts.is_free }
         requires same { parts.pointee ≡ node }
         requires ready { Ready self.now (C.state context.old)
             (ElementsWork node left at ∷ list_of work.old) }
@@ -140,7 +105,7 @@ impl Checker<'_> {
         ensures pays { PaysToRow C.Context self.now node (bytes_of_elements self.now node left)
             context work result }
     {
-        let hollow = self.check_leaves(node, parts, left, at, size, work, context)?;
+        let hollow = self.check_hollow(node, parts, left, at, size, work, context)?;
         let inner = self.enter_first(
             node,
             parts,
@@ -171,7 +136,6 @@ impl Checker<'_> {
     ) -> Option<()>
         requires plan { IsCheckable self.now }
         requires hollow { IsHollow self.now node parts }
-        requires free { IsTrue parts.is_free }
         requires same { parts.pointee ≡ node }
         requires ready { Ready self.now (C.state context.old)
             (ElementsWork node left at ∷ list_of work.old) }

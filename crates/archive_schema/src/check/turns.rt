@@ -348,7 +348,7 @@ impl Checker<'_> {
         let Some(parts) = self.hollow(node, size) else {
             return self.open_elements(node, left, at, size, work, context);
         };
-        if parts.is_free && parts.pointee == node {
+        if parts.pointee == node {
             return self.check_trees(node, parts, left, at, size, work, context);
         }
         let hollow = self.check_hollow(node, parts, left, at, size, work, context)?;

@@ -5,8 +5,8 @@ use Rattle.archive_schema.proofs.check.LegalElements.{elements_fit}
 use Rattle.archive_schema.proofs.check.Rows.{turn_goes_on}
 use Rattle.archive_schema.proofs.check.Checker.check_level.Goals as goal
 
-pub check_leaves-requires : goal.check_leaves-requires
-check_leaves-requires g c = record { plan = c.requires.plan; hollow = c.requires.hollow; free = c.requires.free; fits = c.requires.ready.fits.0; size = c.requires.size }
+pub check_hollow-requires : goal.check_hollow-requires
+check_hollow-requires g c = record { plan = c.requires.plan; hollow = c.requires.hollow; fits = c.requires.ready.fits.0; size = c.requires.size; below = c.requires.ready.below }
 
 pub returns-in_err-hollow-clause-turn : goal.returns-in_err-hollow-clause-turn
 returns-in_err-hollow-clause-turn g c = rw c.from_residual.ensures (front_refused c.in_err-hollow.ensures.passes)
@@ -18,7 +18,7 @@ overflow_add-at g c =
     let h : c.args.at + c.in_ok-hollow.hollow * c.args.size ≤ length c.args.self.now.bytes.now = omega (arith, fit, all) in search rules
 
 pub enter_first-requires : goal.enter_first-requires
-enter_first-requires g c = record { plan = c.requires.plan; hollow = c.requires.hollow; free = c.requires.free; same = c.requires.same; ready = others_ready c.requires.ready c.requires.size c.in_ok-hollow.ensures.passes.some; size = c.requires.size }
+enter_first-requires g c = record { plan = c.requires.plan; hollow = c.requires.hollow; same = c.requires.same; ready = others_ready c.requires.ready c.requires.size c.in_ok-hollow.ensures.passes.some; size = c.requires.size }
 
 pub returns-in_err-inner-clause-turn : goal.returns-in_err-inner-clause-turn
 returns-in_err-inner-clause-turn g c = rw c.from_residual-in_err-inner.ensures (others_turn c.requires.ready c.requires.size c.in_ok-hollow.ensures.passes.some c.in_err-inner.ensures.turn)
