@@ -87,12 +87,12 @@ TurnToRow k m j entry c w result =
     TurnsFrom m (Listing m) (cost_at m (with_entry entry (stage_before k c w))) (with_entry entry (stage_before k c w)) (stage_row k j c w result) (taken result) w.exit.now.fault
 
 -- A call goes on with the list, if it takes an entry at all.
-abbrev pub GoesOn : {A : Type 0} → Context.Ghosts A → Checker → Both (MutBor A) (MutBor A) → Both (MutBor Worklist) (MutBor Worklist) → Option (Unit {0}) → Type 0
-GoesOn k m c w result = TurnsFrom m (Listing m) (1 + cost_at m (stage_before k c w)) (stage_before k c w) (stage_behind k c w) result w.exit.now.fault
+abbrev pub Continues : {A : Type 0} → Context.Ghosts A → Checker → Both (MutBor A) (MutBor A) → Both (MutBor Worklist) (MutBor Worklist) → Option (Unit {0}) → Type 0
+Continues k m c w result = TurnsFrom m (Listing m) (1 + cost_at m (stage_before k c w)) (stage_before k c w) (stage_behind k c w) result w.exit.now.fault
 
 -- So does one that says which elements come next.
-abbrev pub GoesOnToRow : {A : Type 0} → Context.Ghosts A → Checker → ℕ → Both (MutBor A) (MutBor A) → Both (MutBor Worklist) (MutBor Worklist) → Option (Option Row) → Type 0
-GoesOnToRow k m j c w result =
+abbrev pub ContinuesToRow : {A : Type 0} → Context.Ghosts A → Checker → ℕ → Both (MutBor A) (MutBor A) → Both (MutBor Worklist) (MutBor Worklist) → Option (Option Row) → Type 0
+ContinuesToRow k m j c w result =
     TurnsFrom m (Listing m) (1 + cost_at m (stage_before k c w)) (stage_before k c w) (stage_row k j c w result) (taken result) w.exit.now.fault
 
 -- A call enters a region.

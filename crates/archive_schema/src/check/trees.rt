@@ -7,7 +7,7 @@ ghost use Rattle.archive_schema.specs.check.Runs.{Takes};
 ghost use Rattle.archive_schema.specs.check.Hollow.{IsHollow};
 ghost use Rattle.archive_schema.specs.check.LoopInvariant.{Ready};
 ghost use Rattle.archive_schema.specs.check.Paid.{Pays, PaysToRow, bytes_of_elements};
-ghost use Rattle.archive_schema.specs.check.Turns.{IsCheckable, Turn, TurnToRow, GoesOn, GoesOnToRow};
+ghost use Rattle.archive_schema.specs.check.Turns.{IsCheckable, Turn, TurnToRow, Continues, ContinuesToRow};
 
 use crate::check::Checker;
 use crate::check::hollow::Hollow;
@@ -56,7 +56,7 @@ impl Checker<'_> {
     #[inline(always)]
     fn leave_next<C: ArchiveContext>(&self, work: &mut Worklist, context: &mut C) -> Option<()>
         requires ready { Ready self.now (C.state context.old) (list_of work.old) }
-        ensures turn { GoesOn C.Context self.now context work result }
+        ensures turn { Continues C.Context self.now context work result }
         ensures pays { Pays C.Context self.now 0 context work }
     {
         match work.pop_leave() {
@@ -74,7 +74,7 @@ impl Checker<'_> {
         context: &mut C,
     ) -> Option<Option<Row>>
         requires ready { Ready self.now (C.state context.old) (list_of work.old) }
-        ensures turn { GoesOnToRow C.Context self.now node context work result }
+        ensures turn { ContinuesToRow C.Context self.now node context work result }
         ensures pays { PaysToRow C.Context self.now node 0 context work result }
     {
         self.leave_next(work, context)?;
