@@ -1,9 +1,8 @@
 -- Schemas of shapes that are given with a table of definitions: what is taken of it, that it has layouts, and where a root lies.
-use Rattle.std.proofs.Common.{◌≡◌, ◌⊎◌, inl, inr, ℕ, ◌-◌, ◌<◌, ◌≤◌, ◌^◌, List, arith, false, Option, length, refl, sym, ap, ◌∙◌, subst, true, Some, None, Contains}
+use Rattle.std.proofs.Common.{◌≡◌, inl, inr, ℕ, ◌-◌, ◌<◌, ◌≤◌, ◌^◌, List, arith, false, Option, length, refl, sym, ap, ◌∙◌, subst, Some, None, Contains}
 use Rattle.std.proofs.Math.Logic.{∥∥₁_elim}
 use Rattle.std.proofs.Math.Nat.{ℕ_set}
 use Rattle.archive_check.specs.declared.format.error.Error.{Error}
-use Rattle.archive_check.specs.declared.format.error.Error.TheVariants.{OutOfMemory}
 use Rattle.archive_schema.specs.declared.shape.Schema.{Schema as RustSchema}
 use Rattle.archive_check.specs.Shape.{Name, Shape, named, one, Table, definition}
 use Rattle.archive_check.specs.Expressions.{entries_of}
@@ -13,7 +12,7 @@ use Rattle.archive_check.specs.Layout.{Layout}
 use Rattle.archive_check.specs.Members.RegionLayout.{IsLargeRegion}
 use Rattle.archive_check.specs.Definitions.{listed, HasLayouts, HasLayout}
 use Rattle.archive_check.specs.MissingNames.{Collected, Arranged, missing}
-use Rattle.archive_schema.specs.Schemas.{root_of, defined_by, definitions_in}
+use Rattle.archive_schema.specs.Schemas.{root_of, definitions_in}
 use Rattle.archive_schema.specs.plan.Names.{HasAll, ExplainsHeld}
 use Rattle.archive_schema.specs.Given.{IsTaken, IsSchemaAmong, ExplainsNoMeaning}
 use Rattle.archive_check.proofs.Names.LaidOutNames.{names_of, rounds_solve_reached}

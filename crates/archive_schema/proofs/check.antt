@@ -16,6 +16,7 @@ pub mod OrderlyContexts
 pub mod Paid
 pub mod RootLoop
 pub mod RootRuns
+pub mod Rows
 pub mod TurnInvariants
 pub mod TurnRules
 pub mod TurnExits

@@ -12,6 +12,7 @@ mod finished;
 mod hollow;
 pub mod regions;
 mod shallow;
+mod trees;
 mod turns;
 mod whole;
 pub mod worklist;

@@ -1,5 +1,5 @@
 -- A shared pointer is followed: what the context answers, and what is left to do.
-use Rattle.std.proofs.Common.{◌≡◌, ◌≢◌, ◌⊎◌, inl, inr, ℕ, ℤ, pos, negsuc, ◌+ℤ◌, refl, sym, ap, ◌∙◌, ◌<◌, Bool, true, false, IsTrue, List, ◌∷◌, Option, Some, None, Result, Err, ◌≤ℤ◌, nat_abs, arith, length, slice_index_or}
+use Rattle.std.proofs.Common.{◌≡◌, ◌⊎◌, inl, inr, ℕ, ℤ, pos, negsuc, ◌+ℤ◌, refl, sym, ap, ◌∙◌, ◌<◌, Bool, true, false, IsTrue, List, ◌∷◌, Option, Some, None, Result, Err, ◌≤ℤ◌, nat_abs, arith, length, slice_index_or}
 use Rattle.std.proofs.lemmas.Int.{ints}
 use Rattle.std.specs.Int.{FitsUnsigned}
 use Rattle.archive_check.specs.declared.context.ValidationState.{ValidationState}

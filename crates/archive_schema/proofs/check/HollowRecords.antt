@@ -12,6 +12,7 @@ use Rattle.archive_check.specs.Trail.{Fault}
 use Rattle.archive_check.specs.Outcomes.{Outcome, done, refused}
 use Rattle.archive_schema.specs.declared.plan.Node.{Node}
 use Rattle.archive_schema.specs.declared.plan.Part.{Part}
+use Rattle.archive_schema.specs.declared.plan.PointeeKind.{PointeeKind}
 use Rattle.archive_schema.specs.declared.plan.PointeeKind.TheVariants.{Run, Entries as EntriesOf}
 use Rattle.archive_schema.specs.declared.plan.NodeKind.TheVariants.{Pointer as PointerNode}
 use Rattle.archive_check.specs.declared.format.expr.Key.{Key as KeyExpr}
@@ -21,9 +22,9 @@ use Rattle.archive_schema.specs.declared.check.hollow.Hollow.{Hollow}
 use Rattle.archive_schema.specs.declared.check.worklist.Work.{Work}
 use Rattle.archive_schema.specs.declared.check.worklist.Work.TheVariants.{Elements}
 use Rattle.archive_schema.specs.check.Runs.{IsNode, Takes, RegionIs, NodeRuns, PartsRun, ElementsRun, EnterRuns, ListRuns, run_pointer, parts_end, parts_next, parts_stop, run_free, run_record, list_elements, list_elements_stop}
-use Rattle.archive_schema.specs.check.Hollow.{IsHollow, IsEmptyAt}
+use Rattle.archive_schema.specs.check.Hollow.{HasAlign, IsHollow, IsEmptyAt}
 use Rattle.archive_schema.specs.plan.Shallow.{free_at, parts_free, IsFreeSpan}
-use Rattle.archive_schema.specs.plan.SoundPlans.{IsSound, SpanFits}
+use Rattle.archive_schema.specs.plan.SoundPlans.{IsSound, PartsWithin, SpanFits}
 use Rattle.archive_schema.specs.check.LoopInvariant.{PartsHere, PartFits, PartsFit, PartIsLegalHere, Stage, stage, pending_in, Ready, Listing, TurnLeads, cost}
 use Rattle.archive_schema.specs.check.Paid.{bytes_of_parts}
 use Rattle.archive_schema.specs.plan.PackedPlans.{size_at}
@@ -37,7 +38,7 @@ use Rattle.archive_schema.proofs.check.LegalParts.{part_fits}
 use Rattle.archive_schema.proofs.check.OrderlyContexts.{orderly_levels}
 use Rattle.archive_schema.proofs.check.Paid.{parts_next_is}
 use Rattle.archive_schema.proofs.check.TurnExits.{turn_then}
-use Rattle.archive_schema.proofs.check.TurnInvariants.{record_fits, rank_less}
+use Rattle.archive_schema.proofs.check.TurnInvariants.{kind_fits, record_fits, rank_less}
 
 -- no elements take no bytes
 none_take_none : (size : Option ℕ) {z : ℕ} → times size 0 ≡ Some z → z ≡ 0
@@ -46,6 +47,14 @@ none_take_none (Some y) is = let nothing : y * 0 ≡ 0 = omega arith in let smal
 
 pub region_none : {m : Checker} {j z align : ℕ} → RegionIs m Run j 0 (Some z) align → z ≡ 0
 region_none region = none_take_none region.node.size region.size_is
+
+-- the region of no elements is entered so, whatever they take
+nothing_taken : (size : Option ℕ) → times size 0 ≡ Some 0
+nothing_taken None = refl
+nothing_taken (Some y) = let nothing : y * 0 ≡ 0 = omega arith in rw nothing refl
+
+pub empty_region : {m : Checker} {j align : ℕ} → HasAlign m j align → RegionIs m Run j 0 (Some 0) align
+empty_region h = record { node = h.node; at = h.at; size_is = nothing_taken h.node.size; align_is = h.align_is }
 
 pub no_entries : (key : KeyExpr) → Run ≢ EntriesOf key
 no_entries key e = cc
@@ -99,7 +108,7 @@ pub front_free : {m : Checker} {a b p : ℕ} {x : Stage} {u : Unit {0}} {fault :
 front_free {m = m} {a = a} {b = b} {p = p} fit free = front_legal {c = b} (λ k from to. part_free m p a b k fit free from to) (omega arith)
 
 -- behind the parts in front
-behind_front : {m : Checker} {a b c p : ℕ} {x y : Stage} → Passed (parts_rule m a b p) x y → a ≤ b → b ≤ c → Towards (parts_rule m a c p) (parts_rule m b c p) x y
+pub behind_front : {m : Checker} {a b c p : ℕ} {x y : Stage} → Passed (parts_rule m a b p) x y → a ≤ b → b ≤ c → Towards (parts_rule m a c p) (parts_rule m b c p) x y
 behind_front passed le more = record {
   end = passed.through.end;
   depth = passed.through.depth;
@@ -145,11 +154,28 @@ module _ {m : Checker} {i p : ℕ} {h : Hollow} (sound : IsSound m) (is : IsHoll
   pub last_fits : PartFits m h.node (p + h.offset)
   last_fits = part_fits m p h.first (h.end + 1) h.end (record { offset = h.offset; node = h.node }) hollow_fit is.order (omega arith) is.part
 
+-- a record whose parts in front may be any bytes
+pub free_passes : {m : Checker} {i p : ℕ} {h : Hollow} {x y : Stage} {r : Option (Unit {0})} {fault : Error} → IsSound m → IsHollow m i h → IsTrue h.is_free → PartFits m i p → PassesFrom (node_rule m h.node (p + h.offset)) x y r fault → PassesFrom (node_rule m i p) x y r fault
+free_passes {p = p} {h = h} {x = x} sound is free f last = hollow_passes is (front_free {u = tt} {fault = Error.OutOfMemory} (front_fit sound is f) (is.free free)).some last
+
 -- the last part's node is there
 pub last_known : {m : Checker} {i z a b : ℕ} → Takes m i z → SpanFits m i z a b → a < b → (slice_index_or m.parts.now (b - 1) (record { offset = 0; node = 0 })).node < length m.nodes.now
 last_known {m = m} {a = a} {b = b} takes fits lt =
     let at = at_default m.parts.now (b - 1) (record { offset = 0; node = 0 }) (omega (arith, fits.last)) in
     omega (arith, part_below m.parts.now b (b - 1 - a) a (b - 1) _ (omega arith) (omega arith) fits.last at, rank_less fits, takes.at.below)
+
+-- each part of a node takes a size
+within_at : (m : Checker) (i z k : ℕ) (xs : List Part) (x : Part) → PartsWithin m i z xs → IsAt xs k x → (y : ℕ) × Takes m x.node y
+within_at m i z k [] x h at = absurd (omega (arith, at.below))
+within_at m i z zero (y ∷ ys) x h at = rw at.is (h.0.0, h.0.2)
+within_at m i z (suc k) (y ∷ ys) x h at = within_at m i z k ys x h.1 (record { below = omega (arith, at.below); is = at.is })
+
+-- and so the node that the last part leads to is there
+pub pointee_known : {m : Checker} {i z a b j : ℕ} {x : Part} {target : PointeeKind} → IsSound m → SpanFits m i z a b → a < b → IsAt m.parts.now (b - 1) x → IsNode m x.node (PointerNode target j) → j < length m.nodes.now
+pointee_known {m = m} {i = i} {z = z} {a = a} {b = b} {x = x} sound fits lt at is =
+    let same : a + (b - 1 - a) ≡ b - 1 = omega arith in
+    let part = at_span m.parts.now a b (b - 1 - a) x (omega arith) (rw same at) in
+    (kind_fits sound is (within_at m i z (b - 1 - a) (span m.parts.now a b) x fits.within part).1).1
 
 none_between : (m : Checker) (a b : ℕ) → b ≤ a → bytes_of_parts m a b ≡ 0
 none_between m a b le = let none : b - a ≡ 0 = omega arith in rw none refl

@@ -120,6 +120,10 @@ parts_next_is m a b x lt le at = ap (parts_size m.nodes.now) (span_next m.parts.
 pub elements_next_is : (m : Checker) (j n k : ℕ) → k < n → bytes_of_elements m j (n - k) ≡ size_at m.nodes.now j + bytes_of_elements m j (n - (k + 1))
 elements_next_is m j n k lt = let one : n - k ≡ 1 + (n - (k + 1)) = omega arith in rw one (omega arith)
 
+pub elements_first_is : (m : Checker) (j n : ℕ) → 0 < n → bytes_of_elements m j n ≡ size_at m.nodes.now j + bytes_of_elements m j (n - 1)
+elements_first_is m j zero lt = absurd (omega (arith, lt))
+elements_first_is m j (suc n) lt = let less : suc n - 1 ≡ n = omega arith in rw less (omega arith)
+
 pub elements_few : (m : Checker) (j n k : ℕ) → bytes_of_elements m j (n - k) ≤ bytes_of_elements m j n
 elements_few m j n k = mul-le-mul_right (size_at m.nodes.now j) (omega arith)
 

@@ -28,7 +28,7 @@ use Rattle.archive_schema.proofs.check.OrderlyContexts.{orderly_levels}
 use Rattle.archive_schema.proofs.check.TurnRules.{turn_record, turn_choice, turn_array, turn_pointer, turn_shared, turn_weak}
 use Rattle.archive_schema.proofs.check.TurnsEnd.{level_same, falls_none, falls_under, falls_shared}
 use Rattle.archive_schema.proofs.check.TurnInvariants.{node_fits, record_fits, variant_fits, parts_less, elements_less, node_leads, node_refuses, elements_free_leads, part_ready, part_leads, part_ends, element_ready, element_leads, element_ends, inner_leads, leave_leads, leave_refuses, finish_leads, finish_refuses}
-use Rattle.archive_schema.proofs.check.LegalParts.{fits_from, skip_all, skip_leads, skip_ready, skip_costs}
+use Rattle.archive_schema.proofs.check.LegalParts.{skip_all, skip_leads, skip_ready, skip_costs}
 use Rattle.archive_schema.proofs.check.LegalElements.{pass_all, pass_leads, pass_ready, pass_costs}
 
 -- any turn

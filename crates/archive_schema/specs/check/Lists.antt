@@ -3,9 +3,10 @@ use denote.Triple.Both.{Both}
 use denote.Ref.{MutBor}
 use Rattle.std.specs.Prelude.{◌≡◌, ◌⊎◌, ℕ, ◌+◌, ◌<◌, List, ◌∷◌, reverse, Option, Some, None}
 use Rattle.archive_schema.specs.declared.check.worklist.Work.{Work}
-use Rattle.archive_schema.specs.declared.check.worklist.Work.TheVariants.{Part, Leave}
+use Rattle.archive_schema.specs.declared.check.worklist.Work.TheVariants.{Part, Elements, Leave}
 use Rattle.archive_schema.specs.declared.check.worklist.Next.{Next}
 use Rattle.archive_schema.specs.declared.check.worklist.Next.TheVariants.{Here, Listed}
+use Rattle.archive_schema.specs.declared.check.worklist.Row.{Row}
 use Rattle.archive_schema.specs.declared.check.worklist.Worklist.{Worklist}
 
 -- What is left, the next first.
@@ -22,8 +23,18 @@ abbrev pub left_next : Option Next → List Work → List Work
 left_next None work = work
 left_next (Some next) work = with_next next work
 
+-- What is left where these elements of the node j come next: they, and then the list, or the list alone.
+abbrev pub with_row : ℕ → Option Row → List Work → List Work
+with_row j None work = work
+with_row j (Some row) work = Elements j row.left row.at ∷ work
+
+-- So a call leaves it, by its result.
+abbrev pub left_row : ℕ → Option (Option Row) → List Work → List Work
+left_row j None work = work
+left_row j (Some row) work = with_row j row work
+
 -- Whether such a call was taken (Some).
-abbrev pub taken : Option Next → Option (Unit {0})
+abbrev pub taken : {A : Type 0} → Option A → Option (Unit {0})
 taken None = None
 taken (Some next) = Some tt
 

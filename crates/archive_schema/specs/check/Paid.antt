@@ -8,11 +8,12 @@ use Rattle.archive_schema.specs.declared.check.worklist.Work.{Work}
 use Rattle.archive_schema.specs.declared.check.worklist.Work.TheVariants.{Part as PartWork, Parts, Elements, Entries, Leave, Finish}
 use Rattle.archive_schema.specs.declared.check.worklist.Worklist.{Worklist}
 use Rattle.archive_schema.specs.declared.check.worklist.Next.{Next}
+use Rattle.archive_schema.specs.declared.check.worklist.Row.{Row}
 use Rattle.archive_check.specs.context.Ranges.{RangeState}
 use Rattle.archive_check.specs.context.Pushes.{worth}
 use Rattle.archive_check.specs.Words.Elements.{span}
 use Rattle.archive_schema.specs.plan.PackedPlans.{size_at, parts_size}
-use Rattle.archive_schema.specs.check.Lists.{list_of, left_next}
+use Rattle.archive_schema.specs.check.Lists.{list_of, left_next, left_row}
 use Rattle.archive_check.specs.declared.format.expr.Key.{Key as KeyExpr}
 use Rattle.archive_check.specs.Expressions.{key_of}
 use Rattle.archive_check.specs.Layout.{key_size}
@@ -53,6 +54,10 @@ Pays k m n c w = PaysFrom m n (k.state c.entry.now) (list_of w.entry.now) (k.sta
 -- So does a call that says what comes next.
 abbrev pub PaysToNext : {A : Type 0} → Context.Ghosts A → Checker → ℕ → Both (MutBor A) (MutBor A) → Both (MutBor Worklist) (MutBor Worklist) → Option Next → Type 0
 PaysToNext k m n c w result = PaysFrom m n (k.state c.entry.now) (list_of w.entry.now) (k.state c.exit.now) (left_next result (list_of w.exit.now))
+
+-- So does a call that says which elements of the node j come next.
+abbrev pub PaysToRow : {A : Type 0} → Context.Ghosts A → Checker → ℕ → ℕ → Both (MutBor A) (MutBor A) → Both (MutBor Worklist) (MutBor Worklist) → Option (Option Row) → Type 0
+PaysToRow k m j n c w result = PaysFrom m n (k.state c.entry.now) (list_of w.entry.now) (k.state c.exit.now) (left_row j result (list_of w.exit.now))
 
 -- Where the first k of n elements are gone through, as the result says, the bytes of the others are left.
 abbrev pub left_of : ℕ → Option ℕ → ℕ

@@ -7,11 +7,12 @@ use Rattle.archive_check.specs.declared.context.Context as Context
 use Rattle.archive_check.specs.declared.format.error.Error.{Error}
 use Rattle.archive_check.specs.declared.format.error.Error.TheVariants.{OutOfMemory}
 use Rattle.archive_schema.specs.declared.plan.PointeeKind.{PointeeKind}
-use Rattle.archive_schema.specs.declared.plan.PointeeKind.TheVariants.{One}
+use Rattle.archive_schema.specs.declared.plan.PointeeKind.TheVariants.{One, Run}
 use Rattle.archive_schema.specs.declared.check.Checker.{Checker}
 use Rattle.archive_schema.specs.declared.check.worklist.Work.{Work}
 use Rattle.archive_schema.specs.declared.check.worklist.Worklist.{Worklist}
 use Rattle.archive_schema.specs.declared.check.worklist.Next.{Next}
+use Rattle.archive_schema.specs.declared.check.worklist.Row.{Row}
 use Rattle.archive_check.specs.context.Ranges.{RangeState}
 use Rattle.archive_check.specs.context.PositionStates.{Positions}
 use Rattle.archive_check.specs.Tour.{Seen}
@@ -23,7 +24,7 @@ use Rattle.archive_schema.specs.plan.Shallow.{IsMarked}
 use Rattle.archive_schema.specs.plan.PackedPlans.{ArePacked}
 use Rattle.archive_check.specs.Outcomes.{Outcome, done, refused}
 use Rattle.archive_schema.specs.check.Runs.{EnterRuns}
-use Rattle.archive_schema.specs.check.Lists.{list_of, left_next, taken}
+use Rattle.archive_schema.specs.check.Lists.{list_of, left_next, left_row, taken}
 use Rattle.archive_schema.specs.check.LoopInvariant.{Stage, stage, Ready, Listing, Entering, Following, TurnLeads, TurnRefuses, IsStopped, power, level, cost}
 use Rattle.archive_schema.specs.check.Through.{stage_before, stage_behind}
 
@@ -76,6 +77,24 @@ abbrev pub TurnToNext : {A : Type 0} → Context.Ghosts A → Checker → Work �
 TurnToNext k m entry c w result =
     TurnsFrom m (Listing m) (cost_at m (with_entry entry (stage_before k c w))) (with_entry entry (stage_before k c w)) (stage_next k c w result) (taken result) w.exit.now.fault
 
+-- What a check is at, at the return of a call that says which elements of the node j come next.
+abbrev pub stage_row : {A : Type 0} → Context.Ghosts A → ℕ → Both (MutBor A) (MutBor A) → Both (MutBor Worklist) (MutBor Worklist) → Option (Option Row) → Stage
+stage_row k j c w result = stage (k.state c.exit.now) (k.positions c.exit.now) (left_row j result (list_of w.exit.now))
+
+-- Such a call takes this entry.
+abbrev pub TurnToRow : {A : Type 0} → Context.Ghosts A → Checker → ℕ → Work → Both (MutBor A) (MutBor A) → Both (MutBor Worklist) (MutBor Worklist) → Option (Option Row) → Type 0
+TurnToRow k m j entry c w result =
+    TurnsFrom m (Listing m) (cost_at m (with_entry entry (stage_before k c w))) (with_entry entry (stage_before k c w)) (stage_row k j c w result) (taken result) w.exit.now.fault
+
+-- A call goes on with the list, if it takes an entry at all.
+abbrev pub Continues : {A : Type 0} → Context.Ghosts A → Checker → Both (MutBor A) (MutBor A) → Both (MutBor Worklist) (MutBor Worklist) → Option (Unit {0}) → Type 0
+Continues k m c w result = TurnsFrom m (Listing m) (1 + cost_at m (stage_before k c w)) (stage_before k c w) (stage_behind k c w) result w.exit.now.fault
+
+-- So does one that says which elements come next.
+abbrev pub ContinuesToRow : {A : Type 0} → Context.Ghosts A → Checker → ℕ → Both (MutBor A) (MutBor A) → Both (MutBor Worklist) (MutBor Worklist) → Option (Option Row) → Type 0
+ContinuesToRow k m j c w result =
+    TurnsFrom m (Listing m) (1 + cost_at m (stage_before k c w)) (stage_before k c w) (stage_row k j c w result) (taken result) w.exit.now.fault
+
 -- A call enters a region.
 abbrev pub TurnEnters : {A : Type 0} → Context.Ghosts A → Checker → PointeeKind → ℕ → ℕ → ℤ → Both (MutBor A) (MutBor A) → Both (MutBor Worklist) (MutBor Worklist) → Option (Unit {0}) → Type 0
 TurnEnters k m target j n z c w result = ComesInto m target j n z (stage_before k c w) (stage_behind k c w) result w.exit.now.fault
@@ -83,6 +102,10 @@ TurnEnters k m target j n z c w result = ComesInto m target j n z (stage_before 
 -- A call enters a region, and says what comes next.
 abbrev pub EntersToNext : {A : Type 0} → Context.Ghosts A → Checker → PointeeKind → ℕ → ℕ → ℤ → Both (MutBor A) (MutBor A) → Both (MutBor Worklist) (MutBor Worklist) → Option Next → Type 0
 EntersToNext k m target j n z c w result = ComesInto m target j n z (stage_before k c w) (stage_next k c w result) (taken result) w.exit.now.fault
+
+-- A call enters a run of n of the node j, and says which of them come next.
+abbrev pub EntersToRow : {A : Type 0} → Context.Ghosts A → Checker → ℕ → ℕ → ℤ → Both (MutBor A) (MutBor A) → Both (MutBor Worklist) (MutBor Worklist) → Option (Option Row) → Type 0
+EntersToRow k m j n z c w result = ComesInto m Run j n z (stage_before k c w) (stage_row k j c w result) (taken result) w.exit.now.fault
 
 -- A call follows the shared pointer at p.
 abbrev pub TurnFollows : {A : Type 0} → Context.Ghosts A → Checker → ℕ → PointeeKind → ℕ → ℕ → Both (MutBor A) (MutBor A) → Both (MutBor Worklist) (MutBor Worklist) → Option (Unit {0}) → Type 0

@@ -1,17 +1,17 @@
 //! Regions are entered and left.
 
 ghost use Rattle.std.specs.Prelude.{◌≡◌, ◌+◌, ◌<◌, ◌≤◌, ℕ, length, Some, OnSome, IfNone};
-ghost use Rattle.archive_schema.specs.declared.plan.PointeeKind.TheVariants.{One, Entries};
+ghost use Rattle.archive_schema.specs.declared.plan.PointeeKind.TheVariants.{One, Run as RunOf, Entries};
 ghost use Rattle.archive_schema.specs.check.Lists.{list_of};
 ghost use Rattle.archive_schema.specs.check.Runs.{RegionIs};
 ghost use Rattle.archive_schema.specs.check.LoopInvariant.{PointeeFits, Ready};
 ghost use Rattle.archive_schema.specs.check.Through.{PassesHeld};
 ghost use Rattle.archive_schema.specs.check.Entered.{EntersRegion, LeavesRegion};
-ghost use Rattle.archive_schema.specs.check.Paid.{Pays, PaysToNext};
-ghost use Rattle.archive_schema.specs.check.Turns.{IsCheckable, TurnEnters, EntersToNext};
+ghost use Rattle.archive_schema.specs.check.Paid.{Pays, PaysToNext, PaysToRow};
+ghost use Rattle.archive_schema.specs.check.Turns.{IsCheckable, TurnEnters, EntersToNext, EntersToRow};
 
 use crate::check::Checker;
-use crate::check::worklist::{Next, Worklist};
+use crate::check::worklist::{Next, Row, Worklist};
 use crate::plan::extents::unit_of;
 use crate::plan::{NodeKind, PointeeKind};
 use archive_check::context::ArchiveContext;
@@ -218,6 +218,42 @@ impl Checker<'_> {
             node: pointee,
             at: begin,
         })
+    }
+
+    /// Enters a run's region, to be left behind its elements, which come next, or at once if there
+    /// is no byte.
+    #[inline(always)]
+    pub fn enter_row<C: ArchiveContext>(
+        &self,
+        pointee: usize,
+        count: usize,
+        position: i128,
+        work: &mut Worklist,
+        context: &mut C,
+    ) -> Option<Option<Row>>
+        requires plan { IsCheckable self.now }
+        requires ready { Ready self.now (C.state context.old) (list_of work.old) }
+        requires pointee { PointeeFits self.now RunOf pointee count }
+        ensures enters { EntersToRow C.Context self.now pointee count position context work
+            result }
+        ensures pays { PaysToRow C.Context self.now pointee 4 context work result }
+    {
+        let region = self.enter_region(PointeeKind::Run, pointee, count, position, work, context)?;
+        let Region {
+            begin,
+            size,
+            outer_start,
+            outer_end,
+        } = region;
+        if size == 0 {
+            leave_region(outer_start, outer_end, work, context)?;
+            return Some(None);
+        }
+        work.leave(outer_start, outer_end)?;
+        Some(Some(Row {
+            left: count,
+            at: begin,
+        }))
     }
 
     /// Enters a region so by a call.

@@ -244,7 +244,7 @@ impl Checker<'_> {
     /// Checks a variant's part at its place in what begins at `at`, if the part is alone and is a
     /// string or a pointer. Returns whether it is so.
     #[inline(always)]
-    fn check_alone<C: ArchiveContext>(
+    pub fn check_alone<C: ArchiveContext>(
         &self,
         variant: Span,
         at: usize,

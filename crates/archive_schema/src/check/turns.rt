@@ -326,6 +326,40 @@ impl Checker<'_> {
         self.open_hollow(node, parts, at, work, context)
     }
 
+    /// Checks records at `at`, each of `size` bytes, whose parts these are, up to the first with
+    /// elements, which is opened.
+    #[inline(never)]
+    fn check_records<C: ArchiveContext + SharedContext>(
+        &self,
+        node: usize,
+        parts: Hollow,
+        left: usize,
+        at: usize,
+        size: usize,
+        work: &mut Worklist,
+        context: &mut C,
+    ) -> Option<()>
+        requires plan { IsCheckable self.now }
+        requires hollow { IsHollow self.now node parts }
+        requires ready { Ready self.now (C.state context.old)
+            (ElementsWork node left at ∷ list_of work.old) }
+        requires size { Takes self.now node size }
+        ensures turn { Turn C.Context self.now (ElementsWork node left at) context work result }
+        ensures pays { Pays C.Context self.now (bytes_of_elements self.now node left) context
+            work }
+    {
+        let hollow = self.check_hollow(node, parts, left, at, size, work, context)?;
+        self.open_records(
+            node,
+            parts,
+            left - hollow,
+            at + hollow * size,
+            size,
+            work,
+            context,
+        )
+    }
+
     /// Checks elements at `at`, each of `size` bytes, up to the first that is opened.
     #[inline(always)]
     fn check_elements<C: ArchiveContext + SharedContext>(
@@ -348,22 +382,16 @@ impl Checker<'_> {
         let Some(parts) = self.hollow(node, size) else {
             return self.open_elements(node, left, at, size, work, context);
         };
-        let hollow = self.check_hollow(node, parts, left, at, size, work, context)?;
-        self.open_records(
-            node,
-            parts,
-            left - hollow,
-            at + hollow * size,
-            size,
-            work,
-            context,
-        )
+        if parts.pointee == node {
+            return self.check_trees(node, parts, left, at, size, work, context);
+        }
+        self.check_records(node, parts, left, at, size, work, context)
     }
 
     /// Leaves a region, and before it the `inner` regions in it that end with it: each gives back a
     /// level, and the last one the range.
     #[inline(always)]
-    fn leave_regions<C: ArchiveContext>(
+    pub fn leave_regions<C: ArchiveContext>(
         &self,
         start: usize,
         end: usize,

@@ -59,6 +59,27 @@ pub enum Next {
     Listed,
 }
 
+/// Elements that are checked next, and aren't listed.
+#[derive(Clone, Copy)]
+pub struct Row {
+    /// How many.
+    pub left: usize,
+    /// Where the first begins.
+    pub at: usize,
+}
+
+/// A region that is left, and before it the `inner` regions in it that end with it: the range is
+/// the one from `start` to `end` again.
+#[derive(Clone, Copy)]
+pub struct Outer {
+    /// Where the range begins.
+    pub start: usize,
+    /// Where it ends.
+    pub end: usize,
+    /// How many regions.
+    pub inner: usize,
+}
+
 /// What is left to check, the next on top, and the error of a check that stopped. The calls that
 /// stop a check return `None` alone, since an error is wide.
 #[derive(Drop)]
@@ -85,6 +106,51 @@ impl Worklist {
         ensures over { IfNone result (list_of self.old ≡ []) }
     {
         self.entries.pop()
+    }
+
+    /// The next entry, if that is a region to be left: it is left no more.
+    #[inline(always)]
+    pub fn pop_leave(&mut self) -> Option<Outer>
+        ensures some { IfSome result (λ outer. list_of self.old ≡ Work.Leave outer.start outer.end
+            outer.inner ∷ list_of self.new) }
+        ensures none { IfNone result (list_of self.new ≡ list_of self.old) }
+    {
+        let Some(last) = self.entries.len().checked_sub(1) else {
+            return None;
+        };
+        match self.entries[last] {
+            Work::Leave { start, end, inner } => {
+                self.entries.pop();
+                Some(Outer { start, end, inner })
+            }
+            _ => None,
+        }
+    }
+
+    /// The next entry, if that is elements of this node: it is left no more.
+    #[inline(always)]
+    pub fn pop_row(&mut self, node: usize) -> Option<Row>
+        ensures some { IfSome result (λ row. list_of self.old ≡ Work.Elements node row.left row.at ∷
+            list_of self.new) }
+        ensures none { IfNone result (list_of self.new ≡ list_of self.old) }
+    {
+        let Some(last) = self.entries.len().checked_sub(1) else {
+            return None;
+        };
+        match self.entries[last] {
+            Work::Elements {
+                node: other,
+                left,
+                at,
+            } => {
+                if other != node {
+                    return None;
+                }
+                self.entries.pop();
+                Some(Row { left, at })
+            }
+            _ => None,
+        }
     }
 
     /// Why the check stopped.

@@ -1,8 +1,12 @@
 use Rattle.std.proofs.Common.{arith}
+use Rattle.archive_check.proofs.Checks.TestedAnswers.{is_true}
 use Rattle.archive_schema.proofs.check.AtOnce.{towards_element, element_stops}
 use Rattle.archive_schema.proofs.check.HollowRecords.{front_stops}
 use Rattle.archive_schema.proofs.check.Paid.{elements_next_is}
 use Rattle.archive_schema.proofs.check.Checker.check_hollow.Goals as goal
+
+pub check_leaves-requires-clause-free : goal.check_leaves-requires-clause-free
+check_leaves-requires-clause-free g c = is_true c.args.parts.is_free c.if-parts.true
 
 pub returns-in_err-check_hollow_record-clause-passes : goal.returns-in_err-check_hollow_record-clause-passes
 returns-in_err-check_hollow_record-clause-passes g c =

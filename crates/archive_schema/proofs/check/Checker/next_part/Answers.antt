@@ -1,4 +1,4 @@
-use Rattle.std.proofs.Common.{◌≡◌, ◌+◌, ◌<◌, ◌≤◌, ◌-◌, arith, ap, rules, slice_index_or, length}
+use Rattle.std.proofs.Common.{◌≡◌, ◌+◌, ◌≤◌, ◌-◌, arith, rules, slice_index_or, length}
 use Rattle.archive_check.proofs.Elements.{at_default}
 use Rattle.archive_schema.specs.declared.check.worklist.Work.TheVariants.{Parts}
 use Rattle.archive_schema.specs.check.Lists.{list_of}

@@ -1,13 +1,11 @@
-use Rattle.std.proofs.Common.{◌≡◌, SFits, arith, sym, ap, refl, ◌∙◌, to_z, of_z}
+use Rattle.std.proofs.Common.{SFits, arith, sym, ap, refl, ◌∙◌, to_z, of_z}
 use Rattle.std.proofs.lemmas.Int.{to_z-of_z}
 use mir.Syntax.{w32}
 use Rattle.archive_schema.specs.declared.plan.PointeeKind.TheVariants.{One}
-use Rattle.archive_schema.specs.declared.check.worklist.Work.TheVariants.{Elements}
-use Rattle.archive_schema.specs.check.Lists.{list_of}
-use Rattle.archive_schema.specs.check.Paid.{bytes_in, bytes_of_elements, PaysFrom}
+use Rattle.archive_schema.specs.check.Paid.{bytes_in}
 use Rattle.archive_schema.proofs.check.AtOnce.{once_turns}
 use Rattle.archive_schema.proofs.check.Entries.{read_at}
-use Rattle.archive_schema.proofs.check.Paid.{record_few, variant_few, array_few, pointer_few, pays_entry}
+use Rattle.archive_schema.proofs.check.Paid.{record_few, variant_few, array_few, pointer_few}
 use Rattle.archive_schema.proofs.check.TurnInvariants.{node_is, record_fits, variant_fits, parts_ready, node_fits}
 use Rattle.archive_schema.proofs.check.TurnExits.{opens_record, opens_variant, opens_no_variant, opens_array, opens_pointer, opens_shared, opens_weak, opens_null}
 use Rattle.archive_schema.proofs.check.Checker.open_node.Goals as goal

@@ -2,10 +2,10 @@ use Rattle.std.proofs.Common.{rules, ◌+◌, ◌*◌, ◌≤◌, arith, length}
 use Rattle.std.proofs.Math.Nat.{mul-le-mul_right}
 use Rattle.archive_schema.proofs.check.HollowRecords.{others_ready, others_turn, front_refused}
 use Rattle.archive_schema.proofs.check.LegalElements.{elements_fit}
-use Rattle.archive_schema.proofs.check.Checker.check_elements.Goals as goal
+use Rattle.archive_schema.proofs.check.Checker.check_records.Goals as goal
 
 pub check_hollow-requires : goal.check_hollow-requires
-check_hollow-requires g c = record { plan = c.requires.plan; hollow = c.in-Some.ensures; fits = c.requires.ready.fits.0; size = c.requires.size; below = c.requires.ready.below }
+check_hollow-requires g c = record { plan = c.requires.plan; hollow = c.requires.hollow; fits = c.requires.ready.fits.0; size = c.requires.size; below = c.requires.ready.below }
 
 pub returns-in_err-hollow-clause-turn : goal.returns-in_err-hollow-clause-turn
 returns-in_err-hollow-clause-turn g c = rw c.from_residual.ensures (front_refused c.in_err-hollow.ensures.passes)
@@ -20,7 +20,7 @@ overflow_add-at g c =
     let h : c.args.at + c.in_ok-hollow.hollow * c.args.size ≤ length c.args.self.now.bytes.now = omega (arith, fit, all) in search rules
 
 pub open_records-requires : goal.open_records-requires
-open_records-requires g c = record { plan = c.requires.plan; hollow = c.in-Some.ensures; ready = others_ready c.requires.ready c.requires.size c.in_ok-hollow.ensures.passes.some; size = c.requires.size }
+open_records-requires g c = record { plan = c.requires.plan; hollow = c.requires.hollow; ready = others_ready c.requires.ready c.requires.size c.in_ok-hollow.ensures.passes.some; size = c.requires.size }
 
 pub returns-clause-turn : goal.returns-clause-turn
 returns-clause-turn g c = others_turn c.requires.ready c.requires.size c.in_ok-hollow.ensures.passes.some c.open_records.ensures.turn
