@@ -44,13 +44,15 @@ class UnitFunctions:
         choice, its = self.choice, self.functions.its
         choice.formats.use("std::mem", "drop")
         arguments = [f"value: &{choice.name}", f"resolver: {choice.resolver}", f"place: Place<'_, {choice.archived}>"]
+        # Where a field has an `Option`, the body has one: else the borrow checker "was not told which modules hold the type `core::option::Option`".
+        dropped = "Some(resolver)" if any(choice.formats.any_of(type, ("Option",)) for type in choice.all_types) else "resolver"
         return f"""    // Writes a variant without fields over its place.
 {signature(f"fn {self.name('resolve')}", [], arguments, "Result<(), Error>", 4)}
         requires from {{ {self.has_no_field("value.now")} }}
         requires zeroed {{ ZeroedPlace {choice.size} place.pos place.bytes.now }}
         ensures {{ ResolvesAs ⟦<{choice.archived} as Portable>⟧ place ({its}.flat value.now resolver) result }}
     {{
-        drop(resolver);
+        drop({dropped});
         let Place {{ bytes, pos, .. }} = place;
 {statement(8, "", self.functions.unit_call(self.tag_call()), "")}    }}
 """

@@ -61,6 +61,11 @@ class VariantGroups(RepositoryTest):
                 self.assertIn(f"UnitVariants<{units}," if units > 1 else "UnitVariants<1,", text)
                 self.assertNotIn("unreachable!()", text[text.index("fn resolve_from_"):text.index("fn serialize_from_")])
 
+    def test_where_a_field_has_an_option_the_resolver_is_dropped_in_one(self):
+        for more, dropped in ((["U"], "drop(resolver);"), (["U", "W(Option<u8>)"], "drop(Some(resolver));")):
+            text = self.written(MOST_IN_BODY + 1, more)
+            self.assertIn(dropped, text[text.index("fn resolve_without_fields"):])
+
     def test_the_arms_of_a_proof_are_indented_as_its_line_is(self):
         self.written(MOST_IN_BODY + 1, ["U"])
         for which, lets in (("resolve", 1), ("serialize", 4)):
