@@ -63,8 +63,6 @@ def unmade(type):
         return f"an array of a type parameter isn't read back; write a `Vec` in place of `{of_parameter.text}`"
     if not holds(type):
         return None
-    if type.own is not None and not any(map(is_remade, type.args)):
-        return None
     if type.own is not None:
         return f"an array in the arguments of a struct isn't read back; write a `Vec` in place of `{first(type).text}`"
     is_long = is_array(type) and int(type.length) > MOST_APART

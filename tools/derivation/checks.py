@@ -258,19 +258,21 @@ def check_array_beside_recursive(module: Module, field: Field):
         raise Refused(module.path, field.type.line, f"an array in a struct that holds a recursive type isn't proved; write a `Vec` in place of `{array.text}`")
 
 
-# What the call that serializes a struct with type parameters passes at most, where a field has an array: beyond that its check "ran out of the steps that the
-# check of one declaration may take".
-MOST_WITH_PARAMETERS = 2_600
+# What the call that serializes a struct with type parameters passes at most, where a field is an array: beyond that its check "ran out of the steps that the
+# check of one declaration may take". As much is proved, of `A` beside a `[u32; 3]` and a `[u8; 4]`.
+MOST_WITH_PARAMETERS = 2_520
 
 
 def check_arrays_beside_parameters(module: Module, it: Declaration):
-    """Refuses the first field of a struct with type parameters up to which there is an array, and too much for the check of `serialize`."""
+    """Refuses the first field of a struct with type parameters that has an array in it and isn't one of numbers, or with which there is too much beside arrays."""
+    if not any(array_in(field.type) for field in it.fields):
+        return
     loads = Loads()
     for count, field in enumerate(it.fields, 1):
-        fields = it.fields[:count]
-        if any(array_in(x.type) for x in it.fields) and loads.of_pairs([x.type for x in fields]) > MOST_WITH_PARAMETERS:
+        is_much = loads.of_pairs([x.type for x in it.fields[:count]]) > MOST_WITH_PARAMETERS
+        if is_much or array_in(field.type) and not (arrays.is_array(field.type) and arrays.is_read(field.type.args[0])):
             like = f"pub type {it.name}Of.. = {it.name}<{', '.join('..' for _ in it.parameters)}>;"
-            said = f"a struct with type parameters and an array isn't proved with `{field.type.text}` beside the fields before it"
+            said = f"`{field.type.text}` beside the other fields of a struct with type parameters and an array isn't proved"
             raise Refused(module.path, field.type.line, f"{said}; name the types that it is used with, each by an alias in this file, as `{like}`")
 
 

@@ -101,26 +101,24 @@ class OtherForms(RepositoryTest):
         return bare(self.text(os.path.join(self.top, "crates", "game", *path)))
 
     def test_in_a_struct_with_type_parameters(self):
-        text = self.written("struct A<T> { x: T, y: [u32; 3] }\nstruct B<T> { x: T, y: Option<[String; 2]> }\nstruct C<T> { x: T, y: Vec<[u8; 4]> }\n")
-        self.assertIn("typeOwned=(T,(OwnedArray<u32,3>,()));", text)
-        self.assertIn("A{x:a0,y:a1.into_array()}", text)
-        self.assertIn("B{x:a0,y:made_option_array2_string(a1)}", text)
-        self.assertIn("C{x:a0,y:a1}", text)
+        text = self.written("struct A<T> { x: T, y: [u32; 3], z: [u8; 4] }\n")
+        self.assertIn("typeOwned=(T,(OwnedArray<u32,3>,(OwnedArray<u8,4>,())));", text)
+        self.assertIn("A{x:a0,y:a1.into_array(),z:a2.into_array()}", text)
         self.assertIn("S:Writer+ResolverAlloc<Alloc=Global>", text)
         self.assertIn("usestd::alloc::Global;", text)
 
-    def test_much_beside_an_array_in_a_struct_with_type_parameters(self):
-        declared = "struct A<T> { x: T,\ny: [u32; 3],\nz: Option<u32>,\nw: Vec<[u8; 4]> }\n"
-        said = "a struct with type parameters and an array isn't proved with `Option<u32>` beside the fields before it"
-        self.assertEqual(self.refusal(declared), f"3: {said}; name the types that it is used with, each by an alias in this file, as `pub type AOf.. = A<..>;`")
-        self.module(f"{declared}pub type ByteA = A<u8>;\n")
-
-    def test_in_the_arguments_of_a_struct_and_behind_an_alias(self):
-        pair = "#[derive(Drop)]\nstruct P<T> { x: T }\n"
-        text = self.written(f"{pair}struct A {{ y: P<[u32; 4]> }}\n")
-        self.assertIn("typeAOwned=(P<[u32;4]>,());", text)
-        text = self.written(f"{pair}pub type OfArray = P<[u32; 4]>;\nstruct A {{ y: OfArray }}\n")
-        self.assertIn("P{x:a0.into_array()}", text)
+    def test_other_arrays_and_much_beside_type_parameters(self):
+        for fields, line, type in (
+            ("y: [u32; 3],\nz: Option<u32>", 3, "Option<u32>"),
+            ("y: [u32; 3],\nz: [u32; 3]", 3, "[u32; 3]"),
+            ("y: [String; 2]", 2, "[String; 2]"),
+            ("y: Option<[u8; 2]>", 2, "Option<[u8; 2]>"),
+            ("y: Vec<[u8; 4]>", 2, "Vec<[u8; 4]>"),
+        ):
+            declared = f"struct A<T> {{ x: T,\n{fields} }}\n"
+            said = f"{line}: `{type}` beside the other fields of a struct with type parameters and an array isn't proved"
+            self.assertEqual(self.refusal(declared), f"{said}; name the types that it is used with, each by an alias in this file, as `pub type AOf.. = A<..>;`")
+            self.module(f"{declared}pub type ByteA = A<u8>;\n")
 
     def test_in_a_recursive_struct(self):
         text = self.written("#[derive(Drop)]\nstruct Tree { key: [u32; 4], names: [String; 2], maybe: Option<[u8; 3]>, below: Vec<Tree> }\n")
@@ -188,8 +186,7 @@ class Refused(RepositoryTest):
         self.assertEqual(said, "3: an array in a struct that holds a recursive type isn't proved; write a `Vec` in place of `[u8; 4]`")
 
     def test_an_array_in_the_arguments_of_a_struct(self):
-        said = self.refusal("#[derive(Drop)]\nstruct P<T> { x: T }\nstruct A { y: P<[String; 4]> }\n")
-        self.assertEqual(said, "3: an array in the arguments of a struct isn't read back; write a `Vec` in place of `[String; 4]`")
+        self.assertEqual(self.refused("P<[u32; 4]>"), "an array in the arguments of a struct isn't read back; write a `Vec` in place of `[u32; 4]`")
 
     def test_an_array_of_a_parameter(self):
         for type, array in (
