@@ -56,11 +56,15 @@ def as_read(type):
 
 def unmade(type):
     """Why an array in a field of this type isn't made of what is read back, if so."""
-    if type.parameter or type.name == "PhantomData" or not holds(type):
+    if type.parameter or type.name == "PhantomData":
         return None
-    inner = first(type)
+    of_parameter = array_of_parameter(type)
+    if of_parameter:
+        return f"an array of a type parameter isn't read back; write a `Vec` in place of `{of_parameter.text}`"
+    if not holds(type):
+        return None
     if type.own is not None:
-        return f"an array in the arguments of a struct isn't read back; write a `Vec` in place of `{inner.text}`"
+        return f"an array in the arguments of a struct isn't read back; write a `Vec` in place of `{first(type).text}`"
     is_long = is_array(type) and int(type.length) > MOST_APART
     if is_remade(type) and type.name in formats.POINTERS | {"OwnedArray"} or is_long and is_remade(type.args[0]):
         array = made_in(type.args[0]) if is_long else made_in(type)
@@ -77,6 +81,17 @@ def holds(type):
 def has_array(type):
     """Whether a value of this type has an array in it, which isn't behind a pointer."""
     return holds(type) and (is_array(type) or type.name not in formats.POINTERS and any(map(has_array, type.args)))
+
+
+def has_parameter(type):
+    return type.parameter or any(map(has_parameter, type.args))
+
+
+def array_of_parameter(type):
+    """The first array in a type of what has a type parameter, also one that is read back."""
+    if type.own is None and type.name in ("array", "OwnedArray") and has_parameter(type):
+        return type
+    return next((found for arg in type.args if (found := array_of_parameter(arg))), None)
 
 
 def first(type):

@@ -1,6 +1,6 @@
 """What is refused of declarations that were read."""
 
-from typing import Callable, Dict, List, Optional, Sequence, Set
+from typing import Callable, Dict, List, Optional, Sequence
 
 from . import arrays
 from .formats import POINTERS, snake, substituted
@@ -222,11 +222,16 @@ MOST_WITH_ARRAYS = 3
 
 def pointer_to_array(type: Type) -> Optional[Type]:
     """The pointer in a type behind which an array is."""
-    return found_in(type, lambda x: x.own is None and x.name in POINTERS and array_in(x, {"array", "OwnedArray"}))
+    return found_in(type, lambda x: x.own is None and x.name in POINTERS and array_in(x))
+
+
+def array_in(type: Type) -> Optional[Type]:
+    """The first array in a type, other than in a type that the user declared."""
+    return found_in(type, lambda x: x.own is None and x.name in ("array", "OwnedArray"))
 
 
 def check_arrays(module: Module):
-    """Refuses arrays that aren't made of what is read back, and those in structs and types whose clauses don't tell of them."""
+    """Refuses arrays that aren't made of what is read back, too many behind pointers, and those in structs that are archived as tuples where they aren't proved."""
     for it in module.declarations:
         for fields in [it.fields] + [v.fields for v in it.variants]:
             held = [field for field in fields if pointer_to_array(field.type)]
@@ -234,26 +239,41 @@ def check_arrays(module: Module):
                 said = f"{len(held)} fields have an array behind a pointer, and {MOST_WITH_ARRAYS} are the most; put some into a struct of their own"
                 raise Refused(module.path, held[MOST_WITH_ARRAYS].line, said)
         for field in it.all_fields():
-            type = field.type
-            if not it.as_tuple:
-                why = arrays.unmade(type)
-                if why:
-                    raise Refused(module.path, type.line, why)
-                continue
-            pointer = pointer_to_array(type)
-            if pointer:
-                array = array_in(pointer, {"array", "OwnedArray"})
-                where = "with type parameters" if it.parameters else "with a recursive type"
-                raise Refused(module.path, type.line, f"an array behind a pointer in a type {where} isn't proved; put `{array.text}` into a struct of its own")
-            is_array = type.name == "array" and type.own is None
-            inner = unreturned(type.args[0], True) if is_array else unreturned(type)
-            if inner:
-                it_is = f"OwnedArray<{inner.args[0].text}, {inner.length}>"
-                raise Refused(module.path, type.line, f"an array in another type is read back as an `OwnedArray`; write `{it_is}`, of `archive_core::core_impls`")
-            held = array_in(type, {"array", "OwnedArray"})
-            if held and it.as_tuple:
-                where = "with type parameters" if it.parameters else "that holds a recursive type"
-                raise Refused(module.path, type.line, f"an array in a struct {where} isn't proved; write a `Vec` in place of `{held.text}`")
+            if it.as_tuple and not it.parameters:
+                check_array_beside_recursive(module, field)
+            why = arrays.unmade(field.type)
+            if why:
+                raise Refused(module.path, field.type.line, why)
+        if it.parameters:
+            check_arrays_beside_parameters(module, it)
+
+
+def check_array_beside_recursive(module: Module, field: Field):
+    """Refuses an array in a struct that holds a recursive type and is archived as a tuple."""
+    pointer, array = pointer_to_array(field.type), array_in(field.type)
+    if pointer:
+        said = f"an array behind a pointer in a type with a recursive type isn't proved; put `{array_in(pointer).text}` into a struct of its own"
+        raise Refused(module.path, field.type.line, said)
+    if array:
+        raise Refused(module.path, field.type.line, f"an array in a struct that holds a recursive type isn't proved; write a `Vec` in place of `{array.text}`")
+
+
+# What the call that serializes a struct with type parameters passes at most, where a field is an array: beyond that its check "ran out of the steps that the
+# check of one declaration may take". As much is proved, of `A` beside a `[u32; 3]` and a `[u8; 4]`.
+MOST_WITH_PARAMETERS = 2_520
+
+
+def check_arrays_beside_parameters(module: Module, it: Declaration):
+    """Refuses the first field of a struct with type parameters that has an array in it and isn't one of numbers, or with which there is too much beside arrays."""
+    if not any(array_in(field.type) for field in it.fields):
+        return
+    loads = Loads()
+    for count, field in enumerate(it.fields, 1):
+        is_much = loads.of_pairs([x.type for x in it.fields[:count]]) > MOST_WITH_PARAMETERS
+        if is_much or array_in(field.type) and not (arrays.is_array(field.type) and arrays.is_read(field.type.args[0])):
+            like = f"pub type {it.name}Of.. = {it.name}<{', '.join('..' for _ in it.parameters)}>;"
+            said = f"`{field.type.text}` beside the other fields of a struct with type parameters and an array isn't proved"
+            raise Refused(module.path, field.type.line, f"{said}; name the types that it is used with, each by an alias in this file, as `{like}`")
 
 
 def check_seen(module: Module):
@@ -284,21 +304,6 @@ def found_marks(it: Type) -> List[Type]:
     if it.name == "PhantomData" and it.own is None:
         return [it]
     return [found for x in it.args for found in found_marks(x)]
-
-
-def array_in(it: Type, names: Set[str]) -> Optional[Type]:
-    """The first array in a type, other than in a type that the user declared."""
-    return found_in(it, lambda x: x.own is None and x.name in names)
-
-
-def unreturned(it: Type, inside: bool = False) -> Optional[Type]:
-    """The first array in a type that isn't read back as it is: of others than bytes, or `inside` another one."""
-    if it.parameter or it.own is None and it.name == "PhantomData":
-        return None
-    if it.own is None and it.name == "array" and (inside or it.args[0].name != "u8"):
-        return it
-    inside = inside or it.own is None and it.name == "OwnedArray"
-    return next((found for x in it.args if (found := unreturned(x, inside))), None)
 
 
 def is_map(it: Type) -> bool:

@@ -382,7 +382,10 @@ class Formats(Laws):
     def writer_bound(self, types, whole=False):
         """What the serializer has to be."""
         self.use("archive_core::ser", "ResolverAlloc", "Writer")
-        alloc = "ResolverAlloc<Alloc = Global>" if any(self.any_of(t, ("array", "OwnedArray")) for t in types) else "ResolverAlloc"
+        alloc = "ResolverAlloc"
+        if any(self.any_of(t, ("array", "OwnedArray")) for t in types):
+            self.use("std::alloc", "Global")
+            alloc = "ResolverAlloc<Alloc = Global>"
         if any(self.shares(t) for t in types):
             self.use("archive_core::sharing", "Sharing")
             return f"Sharing + Writer + {alloc}"

@@ -23,6 +23,7 @@ class Tuple:
         self.bounds = {parameter.name: parameter.bounds for parameter in declaration.parameters}
         self.of = f"{self.name}{self.brackets()}"
         self.rust = [formats.rust(type) for type in self.types]
+        self.read = [formats.read_as(type) for type in self.types]
         self.formats_of = [formats.archived(type) for type in self.types]
         self.formats_bare = [formats.archived(type, bare=True) for type in self.types]
         self.parts = f"{self.name}Fields{self.brackets()}"
@@ -48,9 +49,10 @@ class Tuple:
         return ["'a"] + [f"{name}: Portable" for name in self.parameters]
 
     def built(self):
+        values = [self.formats.arrays.value(type, name) for type, name in zip(self.types, self.names)]
         if self.declaration.form == "tuple":
-            return Group(f"{self.name}(", self.names, ")")
-        return literal(self.name, [f"{field.name}: {name}" for field, name in zip(self.fields, self.names)])
+            return Group(f"{self.name}(", values, ")")
+        return literal(self.name, [f"{field.name}: {value}" for field, value in zip(self.fields, values)])
 
 
 def text(formats, declaration):
@@ -186,7 +188,7 @@ def region(made):
 
 
 def read(made):
-    owned = statement(4, "type Owned = ", pair(made.rust), ";")
+    owned = statement(4, "type Owned = ", pair(made.read), ";")
     from_parts = f"    fn from_parts({flat(pair(made.names))}: Self::Owned) -> Self {{\n"
     return f"""{head(made, made.bound("Archive"), "FromParts", [])}
 {owned}

@@ -213,6 +213,10 @@ class Loads:
         """What a call passes that resolves these fields, lent: nothing of how they are written or read."""
         return self.parts(types, True) + self.sources(types, True)
 
+    def of_pairs(self, types):
+        """What a call passes that writes these fields, in pairs."""
+        return self.parts(types, False) + self.serialized(types, False)
+
     def of_reading(self, types, fours):
         """What a call passes that reads these fields."""
         return self.parts(types, fours) + self.owned(types) + self.read(types, fours)

@@ -213,12 +213,12 @@ use Rattle.{declared}.{choice.name}.{{{choice.name}}}
 use Rattle.{declared}.{choice.name}.TheVariants.{{{names}}}
 {impls}"""
 
-    def by_case(self, body, refuted):
+    def by_case(self, body, refuted, indent=2):
         """An item a line: what has fields is refuted, and each other one has the same body. Of one item alone a name isn't taken."""
-        lines = [f"  | {case.bound()} ↦ {refuted}\n" for case in self.apart()]
+        lines = [f"{case.bound()} ↦ {refuted}" for case in self.apart()]
         if not lines:
-            lines.append(f"  | {self.cases[0].bound()} ↦ {body}\n")
-        return "".join(lines) + f"  | w ↦ {body}\n"
+            lines.append(f"{self.cases[0].bound()} ↦ {body}")
+        return "".join(f"{' ' * indent}| {it}\n" for it in lines + [f"w ↦ {body}"])
 
     def lemmas(self):
         choice, name = self.choice, self.choice.name

@@ -44,13 +44,15 @@ class UnitFunctions:
         choice, its = self.choice, self.functions.its
         choice.formats.use("std::mem", "drop")
         arguments = [f"value: &{choice.name}", f"resolver: {choice.resolver}", f"place: Place<'_, {choice.archived}>"]
+        # Where a field has an `Option`, the body has one: else the borrow checker "was not told which modules hold the type `core::option::Option`".
+        dropped = "Some(resolver)" if any(choice.formats.any_of(type, ("Option",)) for type in choice.all_types) else "resolver"
         return f"""    // Writes a variant without fields over its place.
 {signature(f"fn {self.name('resolve')}", [], arguments, "Result<(), Error>", 4)}
         requires from {{ {self.has_no_field("value.now")} }}
         requires zeroed {{ ZeroedPlace {choice.size} place.pos place.bytes.now }}
         ensures {{ ResolvesAs ⟦<{choice.archived} as Portable>⟧ place ({its}.flat value.now resolver) result }}
     {{
-        drop(resolver);
+        drop({dropped});
         let Place {{ bytes, pos, .. }} = place;
 {statement(8, "", self.functions.unit_call(self.tag_call()), "")}    }}
 """
@@ -119,12 +121,12 @@ fn {self.maker(number)}(tag: u8) -> {choice.name}
         of = self.choice.archived
         return {f"proofs/{module}/{of}/{self.name(which)}/Answers.antt": answers(f"{dotted}.{of}.{self.name(which)}") for which, answers in found.items()}
 
-    def by_tag(self, said, same):
-        """The proof of something of the value `v` with the tag `t`, by cases."""
+    def by_tag(self, said, same, indent=0):
+        """The proof of something of the value `v` with the tag `t`, by cases, in a line with this indent."""
         has_tag = self.choice.elim(f"v {AS_TYPE.strip()}", lambda case: f"t ≡ {case.tag}")
-        arms = self.units.by_case(f"λ t none tagged. {same}", "λ t none tagged. absurd none")
+        arms = self.units.by_case(f"λ t none tagged. {same}", "λ t none tagged. absurd none", indent + 2)
         return f"""((elim c.args.value.now as (λ v. (t : ℕ) → ({self.has_no_field("v", AS_TYPE)}) → ({has_tag}) → {said}) [
-{arms}]) c.tag.result c.requires.from c.tag.ensures)"""
+{arms}{" " * indent}]) c.tag.result c.requires.from c.tag.ensures)"""
 
     def brought(self, *more):
         """What a proof brings in beside the goals, and these of an impl each."""
@@ -151,7 +153,7 @@ pub {step} : goal.{step}
         """It is flat as its tag."""
         choice, unit = self.choice, self.functions.unit
         brought = self.brought((f"{choice.archived}Portable", "shape-value"), (f"{choice.name}Archive", "flat-value"))
-        flat_as = self.by_tag("(flat-value).it v c.args.resolver ≡ case t no_value", SAME)
+        flat_as = self.by_tag("(flat-value).it v c.args.resolver ≡ case t no_value", SAME, 4)
         return f"""-- {WRITTEN}
 use Rattle.std.proofs.Common.{{rules}}
 {brought}use Rattle.{dotted}.Goals as goal
@@ -169,10 +171,10 @@ returns c =
         brought = self.brought((f"{choice.archived}Portable", "shape-value"), (f"{choice.name}Archive", values))
         kept_of = f"use Rattle.{choice.declaration.home('specs', 'declared')}.{choice.resolver}.TheVariants.{{{self.units.name} as {kept}}}\n"
         facts = {
-            "keys": self.by_tag("(keys-value).it v ≡ []", "refl"),
-            "meaning": self.by_tag("(meaning-value).it v ≡ case t no_value", SAME),
-            "flat": self.by_tag(f"(flat-value).it v {kept} ≡ case t no_value", SAME),
-            "belongs": self.by_tag(f"(belongs-value).it v {kept}", "tt"),
+            "keys": self.by_tag("(keys-value).it v ≡ []", "refl", 4),
+            "meaning": self.by_tag("(meaning-value).it v ≡ case t no_value", SAME, 4),
+            "flat": self.by_tag(f"(flat-value).it v {kept} ≡ case t no_value", SAME, 4),
+            "belongs": self.by_tag(f"(belongs-value).it v {kept}", "tt", 4),
         }
         lets = "".join(f"    let its_{name} = {proof} in\n" for name, proof in facts.items())
         return f"""-- {WRITTEN}

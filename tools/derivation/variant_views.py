@@ -2,7 +2,12 @@
 
 from .common import doc_lines, sealed_clauses
 from .formats import snake
-from .layout import Generic, Group, WIDTH, flat, implementation, signature, statement
+from .layout import Generic, Group, WIDTH, call, flat, implementation, signature, statement
+
+# Up to so many variants with fields one body shows: of more `variant` is too much for one.
+MOST_IN_BODY = 40
+# How many of them are in a group, where they are more.
+MOST_IN_GROUP = 16
 
 
 def views(choice):
@@ -12,6 +17,7 @@ def views(choice):
     f.ghost("Seen", "ShowsValueOf", "tag_of")
     f.ghost("Payloads", "payload_in")
     life = "<'a>" if any(case.count for case in choice.cases) else ""
+    groups = groups_of(choice.cases)
     variants, arms, shown = [], [], []
     for case in choice.cases:
         doc = doc_lines(case.docs, f"The variant `{case.name}`.", 4)
@@ -39,6 +45,8 @@ def views(choice):
                 f"ShowsValueOf a{i} self.entry (payload_in {i})",
             ]
         shown.append(f"{case.bound('Shown')} ↦ {' × '.join(facts)}")
+    shown = f"elim result [ {' | '.join(shown)} ]"
+    behind = shown_by_groups(choice, groups, arms, shown) if len(groups) > 1 else ""
     return f"""/// What a view of an archived `{choice.name}` shows, by its tag.
 #[derive(Drop)]
 {choice.visibility}enum {choice.view}{life} {{
@@ -52,12 +60,65 @@ def views(choice):
 
 {implementation(["'a"], f"{choice.name}View", ["'a"], f"Ref<'a, {choice.archived}>")}
 {choice.brought(Shown=choice.view)}    fn variant(self) -> {choice.view}{life}
-        ensures shows {{ elim result [ {" | ".join(shown)} ] }}
+        ensures shows {{ {shown} }}
     {{
         match tag_in(self) {{
-{"".join(arms)}        }}
+{arms_of(choice, groups, arms, 0)}        }}
     }}
 }}
+{behind}"""
+
+
+def groups_of(cases):
+    """The variants that one body shows: those without fields go with what is before them. One group of them all where they are few."""
+    with_fields = [case.tag for case in cases if case.count]
+    begins = with_fields[MOST_IN_GROUP::MOST_IN_GROUP] if len(with_fields) > MOST_IN_BODY else []
+    return [cases[begin:end] for begin, end in zip([0] + begins, begins + [len(cases)])]
+
+
+def shower(group):
+    """The name of what shows a group."""
+    return f"variant_from_{group[0].tag}"
+
+
+def arms_of(choice, groups, arms, number):
+    """The arms of a group: the last one calls what shows the next group."""
+    its = "".join(arms[case.tag] for case in groups[number])
+    if number + 1 < len(groups):
+        its += statement(12, "tag => ", call(f"{choice.name}ViewGroups::{shower(groups[number + 1])}", ["self", "tag"]), ",")
+    return its
+
+
+def shown_by_groups(choice, groups, arms, shown):
+    """What shows the variants of each group behind the first one: the methods of a trait, as the borrow checker doesn't cover a function beside it."""
+    choice.formats.ghost("std.specs.Prelude", "ℕ", "◌<◌", "◌≤◌")
+    heads, bodies = [], []
+    for number, group in list(enumerate(groups))[1:]:
+        head = signature(f"fn {shower(group)}", [], ["self", "tag: u8"], f"{choice.view}<'a>", 4)
+        requires = f"""        requires its_tag {{{{ {{}} self ≡ tag }}}}
+        requires from {{{{ {group[0].tag} ≤ tag }}}}
+        requires below {{{{ tag < {len(choice.cases)} }}}}"""
+        heads.append(f"    // Shows a variant from `{group[0].name}` on.\n{head}\n{requires.format('tag_shown')};\n")
+        bodies.append(f"""{head}
+{requires.format("tag_of")}
+        ensures shows {{ {shown} }}
+    {{
+        match tag {{
+{arms_of(choice, groups, arms, number)}        }}
+    }}
+""")
+    return f"""
+// What a view shows, group by group.
+trait {choice.name}ViewGroups<'a> {{
+    // The tag that it shows.
+    ghost tag_shown: {{ Self → ℕ }};
+
+{chr(10).join(heads)}}}
+
+{implementation(["'a"], f"{choice.name}ViewGroups", ["'a"], f"Ref<'a, {choice.archived}>")}
+{choice.brought(Shown=choice.view)}    ghost tag_shown = {{ λ v. tag_of v }};
+
+{chr(10).join(bodies)}}}
 """
 
 

@@ -89,7 +89,7 @@ class ArraysWithin(RepositoryTest):
 
 
 class OtherForms(RepositoryTest):
-    """Arrays in recursive types, and in those around one."""
+    """Arrays in types with type parameters, and in recursive types and those around one."""
 
     def written(self, text):
         path = self.put(f"use archive_core::rc::Shared;\n{text}")
@@ -99,6 +99,26 @@ class OtherForms(RepositoryTest):
 
     def beside(self, *path):
         return bare(self.text(os.path.join(self.top, "crates", "game", *path)))
+
+    def test_in_a_struct_with_type_parameters(self):
+        text = self.written("struct A<T> { x: T, y: [u32; 3], z: [u8; 4] }\n")
+        self.assertIn("typeOwned=(T,(OwnedArray<u32,3>,(OwnedArray<u8,4>,())));", text)
+        self.assertIn("A{x:a0,y:a1.into_array(),z:a2.into_array()}", text)
+        self.assertIn("S:Writer+ResolverAlloc<Alloc=Global>", text)
+        self.assertIn("usestd::alloc::Global;", text)
+
+    def test_other_arrays_and_much_beside_type_parameters(self):
+        for fields, line, type in (
+            ("y: [u32; 3],\nz: Option<u32>", 3, "Option<u32>"),
+            ("y: [u32; 3],\nz: [u32; 3]", 3, "[u32; 3]"),
+            ("y: [String; 2]", 2, "[String; 2]"),
+            ("y: Option<[u8; 2]>", 2, "Option<[u8; 2]>"),
+            ("y: Vec<[u8; 4]>", 2, "Vec<[u8; 4]>"),
+        ):
+            declared = f"struct A<T> {{ x: T,\n{fields} }}\n"
+            said = f"{line}: `{type}` beside the other fields of a struct with type parameters and an array isn't proved"
+            self.assertEqual(self.refusal(declared), f"{said}; name the types that it is used with, each by an alias in this file, as `pub type AOf.. = A<..>;`")
+            self.module(f"{declared}pub type ByteA = A<u8>;\n")
 
     def test_in_a_recursive_struct(self):
         text = self.written("#[derive(Drop)]\nstruct Tree { key: [u32; 4], names: [String; 2], maybe: Option<[u8; 3]>, below: Vec<Tree> }\n")
@@ -126,7 +146,8 @@ class OtherForms(RepositoryTest):
 
     def test_what_is_behind_a_pointer_there(self):
         said = "an array of `String` in `Vec` is read back as an `OwnedArray`; write `OwnedArray<String, 2>`, of `archive_core::core_impls`"
-        self.assertEqual(self.refusal("#[derive(Drop)]\nstruct Tree { below: Vec<Tree>,\nx: Vec<[String; 2]> }\n"), f"3: {said}")
+        for text in ("#[derive(Drop)]\nstruct Tree { below: Vec<Tree>,\nx: Vec<[String; 2]> }\n", "struct A<T> { t: T,\n\nx: Vec<[String; 2]> }\n"):
+            self.assertEqual(self.refusal(text), f"3: {said}")
 
 
 class Refused(RepositoryTest):
@@ -157,15 +178,27 @@ class Refused(RepositoryTest):
         self.assertEqual(self.refusal(f"struct A {{ {', '.join(fields)} }}\n"), f"1: {said}")
         self.assertEqual(self.refusal(f"enum A {{ X {{ {', '.join(fields)} }}, Y }}\n"), f"1: {said}")
 
-    def test_an_array_behind_a_pointer_in_a_type_that_is_written_otherwise(self):
-        said = self.refusal("struct A<T> { x: T, y: Vec<[u8; 4]> }\n")
-        self.assertIn("an array behind a pointer in a type with type parameters isn't proved; put `[u8; 4]` into a struct of its own", said)
+    def test_an_array_around_a_graph(self):
         web = "use archive_core::rc::Shared;\nstruct Web { x: u8, next: Vec<Shared<Web>> }\n"
         said = self.refusal(f"{web}struct A {{ web: Web, y: Vec<[u8; 4]> }}\n")
-        self.assertIn("an array behind a pointer in a type with a recursive type isn't proved; put `[u8; 4]` into a struct of its own", said)
+        self.assertEqual(said, "3: an array behind a pointer in a type with a recursive type isn't proved; put `[u8; 4]` into a struct of its own")
+        said = self.refusal(f"{web}struct A {{ web: Web, y: Option<[u8; 4]> }}\n")
+        self.assertEqual(said, "3: an array in a struct that holds a recursive type isn't proved; write a `Vec` in place of `[u8; 4]`")
 
     def test_an_array_in_the_arguments_of_a_struct(self):
         self.assertEqual(self.refused("P<[u32; 4]>"), "an array in the arguments of a struct isn't read back; write a `Vec` in place of `[u32; 4]`")
+
+    def test_an_array_of_a_parameter(self):
+        for type, array in (
+            ("[T; 2]", "[T; 2]"),
+            ("Option<[T; 2]>", "[T; 2]"),
+            ("[Option<T>; 2]", "[Option<T>; 2]"),
+            ("Vec<[T; 2]>", "[T; 2]"),
+            ("Vec<OwnedArray<T, 2>>", "OwnedArray<T, 2>"),
+        ):
+            text = f"use archive_core::core_impls::OwnedArray;\nstruct A<T> {{ x: T,\ny: {type} }}\n"
+            self.assertEqual(self.refusal(text), f"3: an array of a type parameter isn't read back; write a `Vec` in place of `{array}`")
+            self.module(f"{text}pub type ByteA = A<u8>;\n")
 
     def test_more_arrays_than_are_taken_apart(self):
         self.assertEqual(self.refused("[[String; 4]; 4]"), "an array of `String` in more than 3 others is read back as an `OwnedArray`; write `OwnedArray<String, 4>`, of `archive_core::core_impls`")

@@ -66,7 +66,7 @@ DECLARATIONS = [
     (f"enum Many {{\n{LIST.join(f'V{i}' for i in range(257))} }}", "258: `Many` has 257 variants, and a tag of one byte counts 256; put some into an enum of their own"),
     ("struct A<'a> { x: &'a u8 }", "1: a lifetime has no place in an archived type; remove 'a and own what it borrows"),
     ("struct A<const N: usize> { x: [u8; N] }", "1: a const parameter has no archived type; in place of `N` write one type for each number"),
-    ("struct A<T> { x: u8,\ny: [T; 2] }", "2: an array in a struct with type parameters isn't proved; write a `Vec` in place of `[T; 2]`"),
+    ("struct A<T> { x: u8,\ny: [T; 2] }", "2: an array of a type parameter isn't read back; write a `Vec` in place of `[T; 2]`"),
     ("struct A<T> { x: T,\ny: (u8, T) }", "2: a tuple in a struct with type parameters is too deep for the toolchain; write a struct without parameters"),
     ("struct W<T>(T);\nstruct A { x: Vec<W<Option<W<u8>>>> }", "2: `W<u8>` in a tuple or a struct with type parameters is too deep for the toolchain; write a struct without"),
     (f"struct A<T> {{ t: T, {LIST.join(f'f{i}: u8' for i in range(FEW))} }}", f"1: `A` has type parameters and more than {FEW} fields: name the types that it is used with, each by an alias in this file, as `pub type AOf.. = A<..>;`"),

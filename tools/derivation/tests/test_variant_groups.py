@@ -61,6 +61,18 @@ class VariantGroups(RepositoryTest):
                 self.assertIn(f"UnitVariants<{units}," if units > 1 else "UnitVariants<1,", text)
                 self.assertNotIn("unreachable!()", text[text.index("fn resolve_from_"):text.index("fn serialize_from_")])
 
+    def test_where_a_field_has_an_option_the_resolver_is_dropped_in_one(self):
+        for more, dropped in ((["U"], "drop(resolver);"), (["U", "W(Option<u8>)"], "drop(Some(resolver));")):
+            text = self.written(MOST_IN_BODY + 1, more)
+            self.assertIn(dropped, text[text.index("fn resolve_without_fields"):])
+
+    def test_the_arms_of_a_proof_are_indented_as_its_line_is(self):
+        self.written(MOST_IN_BODY + 1, ["U"])
+        for which, lets in (("resolve", 1), ("serialize", 4)):
+            proof = self.text(self.file.replace("src/types.rt", f"proofs/types/ArchivedA/{which}_without_fields/Answers.antt"))
+            ends = re.findall(r"^( *)\| (?:AV0|w) .*\n(?: *\| .*\n)*( *)\]\)", proof, re.M)
+            self.assertEqual(ends, [("  ", "")] + [("      ", "    ")] * lets)
+
     def test_variants_without_fields_are_read_in_the_group_of_their_tags(self):
         fields = [f"V{i}(u8)" for i in range(MOST_IN_BODY + 1)]
         self.file = self.put(f"pub enum A {{ {', '.join(['X', 'Y'] + fields[:20] + ['Z'] + fields[20:])} }}")
