@@ -311,6 +311,9 @@ class Recursive(RepositoryTest):
         said = "`Mix` leads back in more ways than are proved of an enum with shared pointers: 7 functions would read its values, and 6 are the most"
         expected = f"crates/game/src/types.rt:3: {said}; write fewer variants, and fewer types of fields, that lead back\n"
         self.assertEqual(self.run_command(self.put(graph % "Shared<Mix>")), (2, expected))
+        oak = "use archive_core::rc::{Shared, WeakShared};\n#[derive(Drop)]\npub enum Oak { Leaf, Options(%sVec<Option<Shared<Oak>>>) }\n"
+        self.assertEqual(self.run_command(self.put(oak % ""))[0], 0)
+        self.assertIn("a `WeakShared` isn't proved in the enum `Oak`", self.run_command(self.put(oak % "WeakShared<Oak>, "))[1])
         # a struct isn't limited
         path = self.put("use archive_core::rc::{Shared, WeakShared};\n#[derive(Drop)]\npub struct All { a: Vec<Shared<All>>, b: WeakShared<All>, c: Vec<Option<Shared<All>>>, d: Vec<Box<All>>, e: Option<Box<All>> }\n")
         self.assertEqual(self.run_command(path), (0, ""))
