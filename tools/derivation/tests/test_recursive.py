@@ -5,6 +5,7 @@ import re
 
 from derivation import write
 from derivation.files import naming
+from derivation.recursive.readers import MOST_OF_GRAPH
 
 from .repository import RepositoryTest
 
@@ -291,16 +292,32 @@ class Recursive(RepositoryTest):
         self.assertEqual(self.run_command("--check", path), (0, ""))
 
     def test_a_variant_with_weak_pointers_is_looked_at_by_their_options(self):
-        path = self.put("use archive_core::rc::{Shared, WeakShared};\n#[derive(Drop)]\npub enum Node { Leaf(u32), Link { next: Vec<Shared<Node>>, up: WeakShared<Node> }, By(Option<Shared<Node>>) }\n")
+        path = self.put("use archive_core::rc::{Shared, WeakShared};\n#[derive(Drop)]\npub enum Node { Leaf(u32), Link { next: Vec<Shared<Node>>, up: WeakShared<Node> }, By(Shared<Node>) }\n")
         self.assertEqual(self.run_command(path), (0, ""))
         text, meaning = self.text(path), self.beside("specs", "NodeMeaning.antt")
         for word in ("struct WeakNodeAt;", "fn serialize_weak_shared_node<", "fn begin_target<"):
             self.assertEqual(text.count(word), 1, word)
         # no clause matches on the record that a weak pointer is
-        for word in ("node_link_means_at a0 None = ", "node_link_planned_at a0 (Some a1) = ", "node_means_roll (Layer.Link a0 a1) = node_link_means_at a0 a1.value", "node_keyed_layer (Layer.By None) = "):
+        for word in ("node_link_means_at a0 None = ", "node_link_planned_at a0 (Some a1) = ", "node_means_roll (Layer.Link a0 a1) = node_link_means_at a0 a1.value"):
             self.assertIn(word, meaning)
         self.assertIn("node_link_opens : (a0 : (Vec (Shared Node-Source) Global)) (a1 : (WeakShared Node-Source)) → ", meaning)
         self.assertEqual(self.run_command("--check", path), (0, ""))
+
+    def test_a_graph_with_an_enum_is_read_by_few_functions(self):
+        graph = "use archive_core::rc::{Shared, WeakShared};\n#[derive(Drop)]\npub enum Mix { Leaf(%s), All(Vec<Shared<Mix>>), Both(WeakShared<Mix>, Vec<Shared<Mix>>) }\n"
+        path = self.put(graph % "u8")
+        self.assertEqual(self.run_command(path), (0, ""))
+        self.assertEqual(self.text(path).count("#[cycle(read_mix)]"), MOST_OF_GRAPH)
+        said = "`Mix` leads back in more ways than are proved of an enum with shared pointers: 7 functions would read its values, and 6 are the most"
+        expected = f"crates/game/src/types.rt:3: {said}; write fewer variants, and fewer types of fields, that lead back\n"
+        self.assertEqual(self.run_command(self.put(graph % "Shared<Mix>")), (2, expected))
+        oak = "use archive_core::rc::{Shared, WeakShared};\n#[derive(Drop)]\npub enum Oak { Leaf, Options(%sVec<Option<Shared<Oak>>>) }\n"
+        self.assertEqual(self.run_command(self.put(oak % ""))[0], 0)
+        self.assertIn("a `WeakShared` isn't proved in the enum `Oak`", self.run_command(self.put(oak % "WeakShared<Oak>, "))[1])
+        # a struct isn't limited
+        path = self.put("use archive_core::rc::{Shared, WeakShared};\n#[derive(Drop)]\npub struct All { a: Vec<Shared<All>>, b: WeakShared<All>, c: Vec<Option<Shared<All>>>, d: Vec<Box<All>>, e: Option<Box<All>> }\n")
+        self.assertEqual(self.run_command(path), (0, ""))
+        self.assertEqual(self.text(path).count("#[cycle(read_all_type)]"), 9)
 
     def test_a_shared_slice_lies_beside_a_box(self):
         path = self.put("use archive_core::rc::SharedSlice;\n#[derive(Drop)]\npub struct Sack { first: Option<Box<Sack>>, parts: SharedSlice<Sack> }\n")

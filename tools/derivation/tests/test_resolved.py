@@ -5,9 +5,9 @@ import os
 from .repository import RepositoryTest
 
 OAK = "use archive_core::rc::Shared;\n#[derive(Drop)]\npub enum Oak { Leaf, Options(Vec<Option<Shared<Oak>>>) }\n"
-MIX = """use archive_core::rc::{Shared, WeakShared};
+MIX = """use archive_core::rc::Shared;
 #[derive(Drop)]
-pub enum Mix { Leaf(u8), All(Vec<Shared<Mix>>), Both(WeakShared<Mix>, Vec<Option<Shared<Mix>>>), One(Shared<Mix>) }
+pub enum Mix { Leaf(u8), All(Vec<Shared<Mix>>), Both(u8, Vec<Shared<Mix>>), One(Shared<Mix>) }
 """
 TOWN = """use archive_core::rc::{Shared, WeakShared};
 #[derive(Drop)]
