@@ -1,5 +1,6 @@
 """What isn't written of recursive types, with what to write instead."""
 
+from dataclasses import replace
 from typing import List
 
 from .. import evidence
@@ -38,9 +39,16 @@ def check_recursive(it: Declaration, line: int, names: str):
 
 def check_variants(it: Declaration):
     """All variants are a nest, whose evidence doubles with each more."""
-    if it.kind == "enum" and evidence.variants([[field.type for field in variant.fields] for variant in it.variants]) > MOST_OF_VARIANTS:
+    if it.kind == "enum" and evidence.variants([[by_name(it, field.type) for field in variant.fields] for variant in it.variants]) > MOST_OF_VARIANTS:
         said = f"the variants of the recursive `{it.name}` come to too much for the toolchain"
         raise Refused(it.path, it.line, f"{said}; put the fields of the last ones, and those of pairs or numbers, into structs")
+
+
+def by_name(it: Declaration, type: Type) -> Type:
+    """The type with those tuples in it that lead back as types of their own, which they are archived as."""
+    if type.name == "tuple" and leads_back(it, type):
+        return Type(it.name, own=it)
+    return replace(type, args=[by_name(it, arg) for arg in type.args])
 
 
 def check_rows(it: Declaration):

@@ -22,3 +22,13 @@ class ByNumber(RepositoryTest):
         text = self.written("#[derive(Drop)]\npub struct T { at: u8, next: Vec<T> }\n#[derive(Drop)]\npub enum H { One(T), Two(u8) }")
         self.assertNotIn("fn resolve_h_1", text)
         self.assertIn("resolve_named_case_1::<T, ArchivedH>(", text)
+
+    def test_variants_that_come_to_too_much(self):
+        deep = "Number(i64), Text(String), Name(String), Pair(Box<A>, Box<A>), Call(Box<A>, Vec<A>), Test(Box<A>, Box<A>, Option<Box<A>>)"
+        said = "the variants of the recursive `A` come to too much for the toolchain; put the fields of the last ones, and those of pairs or numbers, into structs"
+        self.assertEqual(self.refusal(f"#[derive(Drop)]\npub enum A {{ {deep}, None }}\n"), f"2: {said}")
+        test = "#[cycle(a)]\n#[derive(Drop)]\npub struct Test { test: A, yes: A, no: Option<Box<A>> }\n"
+        self.assertEqual(self.run_command(self.put(f"{test}#[cycle(a)]\n#[derive(Drop)]\npub enum A {{ {deep.split(', Test')[0]}, Test(Box<Test>) }}\n")), (0, ""))
+
+    def test_tuples_that_lead_back_are_types_of_their_own(self):
+        self.written("use std::collections::BTreeMap;\n#[derive(Drop)]\npub enum A { Text(String), Work(BTreeMap<u16, i8>), Table(Vec<(String, A, Option<String>)>) }")
