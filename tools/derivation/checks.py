@@ -2,15 +2,17 @@
 
 from typing import Callable, Dict, List, Optional, Sequence
 
-from . import arrays
+from . import arrays, evidence
 from .formats import POINTERS, snake, substituted
 from .loads import MOST as MOST_LOAD
 from .loads import MOST_OF_VARIANTS, Loads
 from .long import MOST_BY_NUMBER, is_long
 from .model import Declaration, Field, Module, Refused, Type
-from .recursive.refusals import MOST_BY_NAME
+from .recursive.refusals import MOST_BY_NAME, by_name
 from . import read
 
+# What the variants of a nest come to, in lines of evidence. A million takes the check ten minutes, and five times as much was too much for it.
+MOST_EVIDENCE = 1_250_000
 
 # How far a type is seen, by the words before it; `pub(super)` and `pub(in ..)` are in between.
 SEEN = {"": 0, "pub(self)": 0, "pub(crate)": 2, "pub": 3}
@@ -171,11 +173,12 @@ def check_with_fields(module: Module, it: Declaration):
 def check_variants(module: Module, loads: Loads, it: Declaration):
     """Refuses the first variant with which there is too much. Those of enums that neither are recursive nor hold a recursive type go in blocks."""
     check_with_fields(module, it)
-    types = []
+    types, nest = [], []
     for v in it.variants if it.part_by_part else []:
         fields = [field.type for field in v.fields]
         types.append(fields)
-        if len(types) + len(fields) > read.DEEPEST or loads.of_variants(types) > MOST_OF_VARIANTS:
+        nest.append([by_name(it, type) for type in fields])
+        if len(types) + len(fields) > read.DEEPEST or loads.of_variants(types) > MOST_OF_VARIANTS or evidence.variants(nest) > MOST_EVIDENCE:
             recursive = "the recursive " if it.recursive else ""
             raise Refused(module.path, v.line, f"{recursive}`{it.name}` has more variants up to here than the toolchain follows; put some into an enum of another file")
 

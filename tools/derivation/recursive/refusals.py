@@ -3,7 +3,6 @@
 from dataclasses import replace
 from typing import List
 
-from .. import evidence
 from ..formats import POINTERS, has_shared
 from ..model import Declaration, Refused, Type
 from .plain import LEAVES, has_boxed, is_shaped
@@ -16,8 +15,6 @@ MOST_FLAT = 12
 # Up to so many fields there are calls by their number, for types that go by a name.
 MOST_BY_NAME = 7
 MOST_PLACES = 3
-# What the variants of an enum come to, in lines of evidence: twice as many take the check over a minute, and much memory.
-MOST_OF_VARIANTS = 800_000
 MOST_ITEMS = 8
 
 
@@ -34,14 +31,6 @@ def check_recursive(it: Declaration, line: int, names: str):
             check_part(it, field.type, field.line)
     check_rows(it)
     check_kept(it)
-    check_variants(it)
-
-
-def check_variants(it: Declaration):
-    """All variants are a nest, whose evidence doubles with each more."""
-    if it.kind == "enum" and evidence.variants([[by_name(it, field.type) for field in variant.fields] for variant in it.variants]) > MOST_OF_VARIANTS:
-        said = f"the variants of the recursive `{it.name}` come to too much for the toolchain"
-        raise Refused(it.path, it.line, f"{said}; put the fields of the last ones, and those of pairs or numbers, into structs")
 
 
 def by_name(it: Declaration, type: Type) -> Type:
