@@ -88,11 +88,11 @@ use archive_core::place::Place;
 use archive_core::primitive::ArchivedI64;
 use archive_core::record::deserialize_record;
 use archive_core::recursive::{
-    VecAt, before_vec, define_choice, define_record, expression_of, first_expression,
-    first_variant, handed_on, named_expression, no_expressions, no_variants, part_of_record,
-    part_of_variant, read_part, resolve_named_case_0, resolve_named_case_2, resolve_named_record_2,
-    seal_of_field, seal_of_payload, serialize_part, serialize_run, tag_of_choice, tag_of_view,
-    vec_expression, view_of_field, view_of_payload,
+    VecAt, before_vec, define_choice, define_record, expression_of, first_expression, first_variant,
+    handed_on, named_expression, no_expressions, no_variants, part_of_record, part_of_variant,
+    read_part, resolve_named_case_0, resolve_named_case_2, resolve_named_record_2, seal_of_field,
+    seal_of_payload, serialize_part, serialize_run, tag_of_choice, tag_of_view, vec_expression,
+    view_of_field, view_of_payload,
 };
 use archive_core::seal::{Seal, sealed_part_in_record};
 use archive_core::self_check::{BySchema, RecordCheck, SelfCheck};
@@ -340,7 +340,9 @@ impl Archive for Json {
     {
         let Place { bytes, pos, .. } = place;
         match self {
-            Json::Null => { resolve_json_0(0, (), Place::new(pos, bytes)) }
+            Json::Null => {
+                resolve_json_0(0, (), Place::new(pos, bytes))
+            }
             Json::Number(a0) => {
                 let JsonResolver::Number(kept) = resolver else {
                     unreachable!();
@@ -387,10 +389,7 @@ impl Archive for Json {
 
 // Writes what each of the values owns, in order.
 #[cycle(serialize_json)]
-fn serialize_each_json<S: Writer + Keys + ResolverAlloc>(
-    values: &[Json],
-    serializer: &mut S,
-) -> Result<Vec<<Json as Archive>::Resolver, S::Alloc>, Error>
+fn serialize_each_json<S: Writer + Keys + ResolverAlloc>(values: &[Json], serializer: &mut S) -> Result<Vec<<Json as Archive>::Resolver, S::Alloc>, Error>
     ensures serialized { IfOk result (λ rs. SerializedRun json_definitions json_shape
         (length values.now) (each_keys ⟦<Json as Archive>⟧.keys values.now)
         (each_meaning ⟦<Json as Archive>⟧.meaning values.now)
@@ -418,10 +417,7 @@ fn serialize_each_json<S: Writer + Keys + ResolverAlloc>(
 
 // Writes what a vector owns.
 #[cycle(serialize_json)]
-fn serialize_vec_json<S: Writer + Keys + ResolverAlloc>(
-    value: &Vec<Json>,
-    serializer: &mut S,
-) -> Result<VecResolver, Error>
+fn serialize_vec_json<S: Writer + Keys + ResolverAlloc>(value: &Vec<Json>, serializer: &mut S) -> Result<VecResolver, Error>
     ensures serialized { IfOk result (λ r. Serialized json_definitions (vec json_shape)
         (⟦<Vec<Json> as Archive>⟧.keys value.now) (⟦<Vec<Json> as Archive>⟧.meaning value.now)
         (⟦<Vec<Json> as Archive>⟧.flat value.now r) (S.state serializer.old)
@@ -448,10 +444,7 @@ fn serialize_vec_json<S: Writer + Keys + ResolverAlloc>(
 
 // Writes what each of the values owns, in order.
 #[cycle(serialize_json)]
-fn serialize_each_member_type<S: Writer + Keys + ResolverAlloc>(
-    values: &[Member],
-    serializer: &mut S,
-) -> Result<Vec<<Member as Archive>::Resolver, S::Alloc>, Error>
+fn serialize_each_member_type<S: Writer + Keys + ResolverAlloc>(values: &[Member], serializer: &mut S) -> Result<Vec<<Member as Archive>::Resolver, S::Alloc>, Error>
     ensures serialized { IfOk result (λ rs. SerializedRun json_definitions member_type_shape
         (length values.now) (each_keys ⟦<Member as Archive>⟧.keys values.now)
         (each_meaning ⟦<Member as Archive>⟧.meaning values.now)
@@ -479,10 +472,7 @@ fn serialize_each_member_type<S: Writer + Keys + ResolverAlloc>(
 
 // Writes what a vector owns.
 #[cycle(serialize_json)]
-fn serialize_vec_member_type<S: Writer + Keys + ResolverAlloc>(
-    value: &Vec<Member>,
-    serializer: &mut S,
-) -> Result<VecResolver, Error>
+fn serialize_vec_member_type<S: Writer + Keys + ResolverAlloc>(value: &Vec<Member>, serializer: &mut S) -> Result<VecResolver, Error>
     ensures serialized { IfOk result (λ r. Serialized json_definitions (vec member_type_shape)
         (⟦<Vec<Member> as Archive>⟧.keys value.now) (⟦<Vec<Member> as Archive>⟧.meaning value.now)
         (⟦<Vec<Member> as Archive>⟧.flat value.now r) (S.state serializer.old)
@@ -609,10 +599,7 @@ fn serialize_json_object<S: Writer + Keys + ResolverAlloc>(
 
 // Writes what a value owns.
 #[cycle(serialize_json)]
-fn serialize_whole_json<S: Writer + Keys + ResolverAlloc>(
-    value: &Json,
-    serializer: &mut S,
-) -> Result<JsonResolver, Error>
+fn serialize_whole_json<S: Writer + Keys + ResolverAlloc>(value: &Json, serializer: &mut S) -> Result<JsonResolver, Error>
     ensures serialized { IfOk result (λ r. Serialized json_definitions json_shape
         (⟦<Json as Archive>⟧.keys value.now) (⟦<Json as Archive>⟧.meaning value.now)
         (⟦<Json as Archive>⟧.flat value.now r) (S.state serializer.old) (S.state serializer.new)) }
@@ -646,10 +633,7 @@ fn serialize_whole_json<S: Writer + Keys + ResolverAlloc>(
 // The same by a call, whose result has its room only while it lasts.
 #[cycle(serialize_json)]
 #[inline(always)]
-fn serialize_json<S: Writer + Keys + ResolverAlloc>(
-    value: &Json,
-    serializer: &mut S,
-) -> Result<JsonResolver, Error>
+fn serialize_json<S: Writer + Keys + ResolverAlloc>(value: &Json, serializer: &mut S) -> Result<JsonResolver, Error>
     ensures serialized { IfOk result (λ r. Serialized json_definitions json_shape
         (⟦<Json as Archive>⟧.keys value.now) (⟦<Json as Archive>⟧.meaning value.now)
         (⟦<Json as Archive>⟧.flat value.now r) (S.state serializer.old) (S.state serializer.new)) }
@@ -701,14 +685,36 @@ impl<S: Writer + Keys + ResolverAlloc> SerializeUnsized<S> for Json {
     }
 }
 
+// The part of a value that is `List` with the index 0.
+#[inline(always)]
+fn part_0_of_json_list<'a>(part: RawView<'a>) -> RawView<'a>
+    requires viewed { IsPartOf ⟦<ArchivedJson as ArchivePointee>⟧ part }
+    requires tag { part_tag part ≡ 3 }
+    ensures buffer { result.bytes.now ≡ part.entry.bytes.now }
+    ensures position { result.pos ≡ part.entry.pos + 4 }
+    ensures length { result.len ≡ 0 }
+    ensures viewed { IsPartOf ⟦<ArchivedVec<ArchivedJson> as ArchivePointee>⟧ result }
+{
+    part_of_variant::<ArchivedJson, ArchivedVec<ArchivedJson>>(part, 3, 0, 4)
+}
+
+// The part of a value that is `Object` with the index 0.
+#[inline(always)]
+fn part_0_of_json_object<'a>(part: RawView<'a>) -> RawView<'a>
+    requires viewed { IsPartOf ⟦<ArchivedJson as ArchivePointee>⟧ part }
+    requires tag { part_tag part ≡ 4 }
+    ensures buffer { result.bytes.now ≡ part.entry.bytes.now }
+    ensures position { result.pos ≡ part.entry.pos + 4 }
+    ensures length { result.len ≡ 0 }
+    ensures viewed { IsPartOf ⟦<ArchivedVec<ArchivedMember> as ArchivePointee>⟧ result }
+{
+    part_of_variant::<ArchivedJson, ArchivedVec<ArchivedMember>>(part, 4, 0, 4)
+}
+
 // Reads a vector back. One with no elements takes no call, whose result would go through memory.
 #[cycle(read_json)]
 #[inline(always)]
-fn read_vec_json<D: Entries>(
-    alloc: Global,
-    part: RawView<'_>,
-    deserializer: &mut D,
-) -> Result<Vec<Json>, Error>
+fn read_vec_json<D: Entries>(alloc: Global, part: RawView<'_>, deserializer: &mut D) -> Result<Vec<Json>, Error>
     requires { IsPartOf ⟦<ArchivedVec<ArchivedJson> as ArchivePointee>⟧ part }
     ensures read { IfOk result (Read ⟦<ArchivedVec<ArchivedJson> as ArchivePointee>⟧ part D.Entries
         deserializer ⟦<Vec<Json> as Archive>⟧) }
@@ -725,11 +731,7 @@ fn read_vec_json<D: Entries>(
 // Reads the elements of a vector back.
 #[cycle(read_json)]
 #[inline(always)]
-fn read_each_json<D: Entries>(
-    alloc: Global,
-    part: RawView<'_>,
-    deserializer: &mut D,
-) -> Result<Vec<Json>, Error>
+fn read_each_json<D: Entries>(alloc: Global, part: RawView<'_>, deserializer: &mut D) -> Result<Vec<Json>, Error>
     requires { IsPartOf ⟦<ArchivedVec<ArchivedJson> as ArchivePointee>⟧ part }
     ensures read { IfOk result (Read ⟦<ArchivedVec<ArchivedJson> as ArchivePointee>⟧ part D.Entries
         deserializer ⟦<Vec<Json> as Archive>⟧) }
@@ -752,11 +754,7 @@ fn read_each_json<D: Entries>(
 // Reads a vector back. One with no elements takes no call, whose result would go through memory.
 #[cycle(read_json)]
 #[inline(always)]
-fn read_vec_member_type<D: Entries>(
-    alloc: Global,
-    part: RawView<'_>,
-    deserializer: &mut D,
-) -> Result<Vec<Member>, Error>
+fn read_vec_member_type<D: Entries>(alloc: Global, part: RawView<'_>, deserializer: &mut D) -> Result<Vec<Member>, Error>
     requires { IsPartOf ⟦<ArchivedVec<ArchivedMember> as ArchivePointee>⟧ part }
     ensures read { IfOk result (Read ⟦<ArchivedVec<ArchivedMember> as ArchivePointee>⟧ part
         D.Entries deserializer ⟦<Vec<Member> as Archive>⟧) }
@@ -773,11 +771,7 @@ fn read_vec_member_type<D: Entries>(
 // Reads the elements of a vector back.
 #[cycle(read_json)]
 #[inline(always)]
-fn read_each_member_type<D: Entries>(
-    alloc: Global,
-    part: RawView<'_>,
-    deserializer: &mut D,
-) -> Result<Vec<Member>, Error>
+fn read_each_member_type<D: Entries>(alloc: Global, part: RawView<'_>, deserializer: &mut D) -> Result<Vec<Member>, Error>
     requires { IsPartOf ⟦<ArchivedVec<ArchivedMember> as ArchivePointee>⟧ part }
     ensures read { IfOk result (Read ⟦<ArchivedVec<ArchivedMember> as ArchivePointee>⟧ part
         D.Entries deserializer ⟦<Vec<Member> as Archive>⟧) }
@@ -799,11 +793,7 @@ fn read_each_member_type<D: Entries>(
 
 // Reads `Null` back.
 #[inline(always)]
-fn read_json_null<D: Entries>(
-    _alloc: Global,
-    part: RawView<'_>,
-    _deserializer: &mut D,
-) -> Result<Json, Error>
+fn read_json_null<D: Entries>(_alloc: Global, part: RawView<'_>, _deserializer: &mut D) -> Result<Json, Error>
     requires viewed { IsPartOf ⟦<ArchivedJson as ArchivePointee>⟧ part }
     requires tag { part_tag part ≡ 0 }
     ensures read { IfOk result (Read ⟦<ArchivedJson as ArchivePointee>⟧ part D.Entries _deserializer
@@ -816,11 +806,7 @@ fn read_json_null<D: Entries>(
 
 // Reads `Number` back.
 #[inline(always)]
-fn read_json_number<D: Entries>(
-    alloc: Global,
-    part: RawView<'_>,
-    deserializer: &mut D,
-) -> Result<Json, Error>
+fn read_json_number<D: Entries>(alloc: Global, part: RawView<'_>, deserializer: &mut D) -> Result<Json, Error>
     requires viewed { IsPartOf ⟦<ArchivedJson as ArchivePointee>⟧ part }
     requires tag { part_tag part ≡ 1 }
     ensures read { IfOk result (Read ⟦<ArchivedJson as ArchivePointee>⟧ part D.Entries deserializer
@@ -838,11 +824,7 @@ fn read_json_number<D: Entries>(
 
 // Reads `Text` back.
 #[inline(always)]
-fn read_json_text<D: Entries>(
-    alloc: Global,
-    part: RawView<'_>,
-    deserializer: &mut D,
-) -> Result<Json, Error>
+fn read_json_text<D: Entries>(alloc: Global, part: RawView<'_>, deserializer: &mut D) -> Result<Json, Error>
     requires viewed { IsPartOf ⟦<ArchivedJson as ArchivePointee>⟧ part }
     requires tag { part_tag part ≡ 2 }
     ensures read { IfOk result (Read ⟦<ArchivedJson as ArchivePointee>⟧ part D.Entries deserializer
@@ -861,11 +843,7 @@ fn read_json_text<D: Entries>(
 // Reads `List` back.
 #[cycle(read_json)]
 #[inline(never)]
-fn read_json_list<D: Entries>(
-    alloc: Global,
-    part: RawView<'_>,
-    deserializer: &mut D,
-) -> Result<Json, Error>
+fn read_json_list<D: Entries>(alloc: Global, part: RawView<'_>, deserializer: &mut D) -> Result<Json, Error>
     requires viewed { IsPartOf ⟦<ArchivedJson as ArchivePointee>⟧ part }
     requires tag { part_tag part ≡ 3 }
     ensures read { IfOk result (Read ⟦<ArchivedJson as ArchivePointee>⟧ part D.Entries deserializer
@@ -873,7 +851,7 @@ fn read_json_list<D: Entries>(
     ensures refused { IfErr result (RefusesPart ⟦<ArchivedJson as ArchivePointee>⟧ part D.Entries
         deserializer) }
 {
-    let p0 = part_of_variant::<ArchivedJson, ArchivedVec<ArchivedJson>>(part, 3, 0, 4);
+    let p0 = part_0_of_json_list(part);
     let a0 = match read_vec_json(alloc, p0, deserializer) {
         Ok(a0) => a0,
         Err(error) => return Err(error),
@@ -884,11 +862,7 @@ fn read_json_list<D: Entries>(
 // Reads `Object` back.
 #[cycle(read_json)]
 #[inline(never)]
-fn read_json_object<D: Entries>(
-    alloc: Global,
-    part: RawView<'_>,
-    deserializer: &mut D,
-) -> Result<Json, Error>
+fn read_json_object<D: Entries>(alloc: Global, part: RawView<'_>, deserializer: &mut D) -> Result<Json, Error>
     requires viewed { IsPartOf ⟦<ArchivedJson as ArchivePointee>⟧ part }
     requires tag { part_tag part ≡ 4 }
     ensures read { IfOk result (Read ⟦<ArchivedJson as ArchivePointee>⟧ part D.Entries deserializer
@@ -896,7 +870,7 @@ fn read_json_object<D: Entries>(
     ensures refused { IfErr result (RefusesPart ⟦<ArchivedJson as ArchivePointee>⟧ part D.Entries
         deserializer) }
 {
-    let p0 = part_of_variant::<ArchivedJson, ArchivedVec<ArchivedMember>>(part, 4, 0, 4);
+    let p0 = part_0_of_json_object(part);
     let a0 = match read_vec_member_type(alloc, p0, deserializer) {
         Ok(a0) => a0,
         Err(error) => return Err(error),
@@ -907,11 +881,7 @@ fn read_json_object<D: Entries>(
 // Reads a value back.
 #[cycle(read_json)]
 #[inline(always)]
-fn read_json<D: Entries>(
-    alloc: Global,
-    part: RawView<'_>,
-    deserializer: &mut D,
-) -> Result<Json, Error>
+fn read_json<D: Entries>(alloc: Global, part: RawView<'_>, deserializer: &mut D) -> Result<Json, Error>
     requires { IsPartOf ⟦<ArchivedJson as ArchivePointee>⟧ part }
     ensures read { IfOk result (Read ⟦<ArchivedJson as ArchivePointee>⟧ part D.Entries deserializer
         ⟦<Json as Archive>⟧) }
@@ -992,9 +962,7 @@ impl<'a> JsonView<'a> for Ref<'a, ArchivedJson> {
                 ViewOfJson::List(a0)
             }
             _ => {
-                let a0 = view_of_payload::<ArchivedJson, ArchivedVec<ArchivedMember>>(
-                    self, 4, 0, 4,
-                );
+                let a0 = view_of_payload::<ArchivedJson, ArchivedVec<ArchivedMember>>(self, 4, 0, 4);
                 ViewOfJson::Object(a0)
             }
         }
@@ -1231,10 +1199,7 @@ impl Archive for Member {
 
 // Writes what a value owns, part by part.
 #[cycle(serialize_json)]
-fn serialize_whole_member_type<S: Writer + Keys + ResolverAlloc>(
-    value: &Member,
-    serializer: &mut S,
-) -> Result<MemberResolver, Error>
+fn serialize_whole_member_type<S: Writer + Keys + ResolverAlloc>(value: &Member, serializer: &mut S) -> Result<MemberResolver, Error>
     ensures serialized { IfOk result (λ r. Serialized member_type_definitions member_type_shape
         (⟦<Member as Archive>⟧.keys value.now) (⟦<Member as Archive>⟧.meaning value.now)
         (⟦<Member as Archive>⟧.flat value.now r) (S.state serializer.old)
@@ -1253,18 +1218,13 @@ fn serialize_whole_member_type<S: Writer + Keys + ResolverAlloc>(
         Ok(a1) => a1,
         Err(error) => return Err(handed_on(error)),
     };
-    Ok(MemberResolver {
-        kept: (a0, (a1, ())),
-    })
+    Ok(MemberResolver { kept: (a0, (a1, ())) })
 }
 
 // The same by a call, whose result has its room only while it lasts.
 #[cycle(serialize_json)]
 #[inline(always)]
-fn serialize_member_type<S: Writer + Keys + ResolverAlloc>(
-    value: &Member,
-    serializer: &mut S,
-) -> Result<MemberResolver, Error>
+fn serialize_member_type<S: Writer + Keys + ResolverAlloc>(value: &Member, serializer: &mut S) -> Result<MemberResolver, Error>
     ensures serialized { IfOk result (λ r. Serialized member_type_definitions member_type_shape
         (⟦<Member as Archive>⟧.keys value.now) (⟦<Member as Archive>⟧.meaning value.now)
         (⟦<Member as Archive>⟧.flat value.now r) (S.state serializer.old)
@@ -1320,11 +1280,7 @@ impl<S: Writer + Keys + ResolverAlloc> SerializeUnsized<S> for Member {
 // Reads a value back, part by part.
 #[cycle(read_json)]
 #[inline(always)]
-fn read_member_type<D: Entries>(
-    alloc: Global,
-    part: RawView<'_>,
-    deserializer: &mut D,
-) -> Result<Member, Error>
+fn read_member_type<D: Entries>(alloc: Global, part: RawView<'_>, deserializer: &mut D) -> Result<Member, Error>
     requires { IsPartOf ⟦<ArchivedMember as ArchivePointee>⟧ part }
     ensures read { IfOk result (Read ⟦<ArchivedMember as ArchivePointee>⟧ part D.Entries
         deserializer ⟦<Member as Archive>⟧) }
@@ -1563,8 +1519,10 @@ impl Archive for Number {
     ) -> Result<(), Error>
         requires zeroed { ZeroedPlace 8 place.pos place.bytes.now }
         requires same_value { ⟦<Self as Archive>⟧.belongs self.now resolver }
-        ensures { ResolvesAs ⟦<Self::Archived as Portable>⟧ place
-            (⟦<Self as Archive>⟧.flat self.now resolver) result }
+        ensures {
+            ResolvesAs ⟦<Self::Archived as Portable>⟧ place
+                (⟦<Self as Archive>⟧.flat self.now resolver) result
+        }
     {
         let Place { bytes, .. } = place;
         self.copy_one(bytes);
@@ -1851,10 +1809,7 @@ impl Archive for Message {
                     Place::new(pos, bytes),
                 )
             }
-            Message::Listed {
-                others: a0,
-                documents: a1,
-            } => {
+            Message::Listed { others: a0, documents: a1 } => {
                 let MessageResolver::Listed(kept) = resolver else {
                     unreachable!();
                 };
@@ -1963,10 +1918,7 @@ fn serialize_message_listed<S: Writer + Keys + ResolverAlloc>(
 }
 
 // Writes what a value owns.
-fn serialize_message<S: Writer + Keys + ResolverAlloc>(
-    value: &Message,
-    serializer: &mut S,
-) -> Result<MessageResolver, Error>
+fn serialize_message<S: Writer + Keys + ResolverAlloc>(value: &Message, serializer: &mut S) -> Result<MessageResolver, Error>
     ensures serialized { IfOk result (λ r. Serialized message_definitions message_shape
         (⟦<Message as Archive>⟧.keys value.now) (⟦<Message as Archive>⟧.meaning value.now)
         (⟦<Message as Archive>⟧.flat value.now r) (S.state serializer.old)
@@ -1983,10 +1935,7 @@ fn serialize_message<S: Writer + Keys + ResolverAlloc>(
             Ok(kept) => Ok(MessageResolver::Sent(kept)),
             Err(error) => Err(error),
         },
-        Message::Listed {
-            others: a0,
-            documents: a1,
-        } => match serialize_message_listed(a0, a1, serializer) {
+        Message::Listed { others: a0, documents: a1 } => match serialize_message_listed(a0, a1, serializer) {
             Ok(kept) => Ok(MessageResolver::Listed(kept)),
             Err(error) => Err(error),
         },
@@ -2034,11 +1983,7 @@ impl<S: Writer + Keys + ResolverAlloc> SerializeUnsized<S> for Message {
 
 // Reads `Nothing` back.
 #[inline(always)]
-fn read_message_nothing<D: Entries>(
-    _alloc: Global,
-    part: RawView<'_>,
-    _deserializer: &mut D,
-) -> Result<Message, Error>
+fn read_message_nothing<D: Entries>(_alloc: Global, part: RawView<'_>, _deserializer: &mut D) -> Result<Message, Error>
     requires viewed { IsPartOf ⟦<ArchivedMessage as ArchivePointee>⟧ part }
     requires tag { part_tag part ≡ 0 }
     ensures read { IfOk result (Read ⟦<ArchivedMessage as ArchivePointee>⟧ part D.Entries
@@ -2051,11 +1996,7 @@ fn read_message_nothing<D: Entries>(
 
 // Reads `Sent` back.
 #[inline(always)]
-fn read_message_sent<D: Entries>(
-    alloc: Global,
-    part: RawView<'_>,
-    deserializer: &mut D,
-) -> Result<Message, Error>
+fn read_message_sent<D: Entries>(alloc: Global, part: RawView<'_>, deserializer: &mut D) -> Result<Message, Error>
     requires viewed { IsPartOf ⟦<ArchivedMessage as ArchivePointee>⟧ part }
     requires tag { part_tag part ≡ 1 }
     ensures read { IfOk result (Read ⟦<ArchivedMessage as ArchivePointee>⟧ part D.Entries
@@ -2082,11 +2023,7 @@ fn read_message_sent<D: Entries>(
 
 // Reads `Listed` back.
 #[inline(always)]
-fn read_message_listed<D: Entries>(
-    alloc: Global,
-    part: RawView<'_>,
-    deserializer: &mut D,
-) -> Result<Message, Error>
+fn read_message_listed<D: Entries>(alloc: Global, part: RawView<'_>, deserializer: &mut D) -> Result<Message, Error>
     requires viewed { IsPartOf ⟦<ArchivedMessage as ArchivePointee>⟧ part }
     requires tag { part_tag part ≡ 2 }
     ensures read { IfOk result (Read ⟦<ArchivedMessage as ArchivePointee>⟧ part D.Entries
@@ -2112,11 +2049,7 @@ fn read_message_listed<D: Entries>(
 
 // Reads a value back.
 #[inline(always)]
-fn read_message<D: Entries>(
-    alloc: Global,
-    part: RawView<'_>,
-    deserializer: &mut D,
-) -> Result<Message, Error>
+fn read_message<D: Entries>(alloc: Global, part: RawView<'_>, deserializer: &mut D) -> Result<Message, Error>
     requires { IsPartOf ⟦<ArchivedMessage as ArchivePointee>⟧ part }
     ensures read { IfOk result (Read ⟦<ArchivedMessage as ArchivePointee>⟧ part D.Entries
         deserializer ⟦<Message as Archive>⟧) }

@@ -369,10 +369,7 @@ impl Archive for Note {
 
 // Writes what each of the values owns, in order.
 #[cycle(serialize_note)]
-fn serialize_each_tuple3_string_note_option_string<S: Writer + Keys + ResolverAlloc>(
-    values: &[(String, Note, Option<String>)],
-    serializer: &mut S,
-) -> Result<Vec<<(String, Note, Option<String>) as Archive>::Resolver, S::Alloc>, Error>
+fn serialize_each_tuple3_string_note_option_string<S: Writer + Keys + ResolverAlloc>(values: &[(String, Note, Option<String>)], serializer: &mut S) -> Result<Vec<<(String, Note, Option<String>) as Archive>::Resolver, S::Alloc>, Error>
     ensures serialized { IfOk result (λ rs. SerializedRun
         tuple3_string_note_option_string_definitions tuple3_string_note_option_string_shape
         (length values.now) (each_keys ⟦<(String, Note, Option<String>) as Archive>⟧.keys
@@ -410,17 +407,15 @@ fn serialize_each_tuple3_string_note_option_string<S: Writer + Keys + ResolverAl
 
 // Writes what a vector owns.
 #[cycle(serialize_note)]
-fn serialize_vec_tuple3_string_note_option_string<S: Writer + Keys + ResolverAlloc>(
-    value: &Vec<(String, Note, Option<String>)>,
-    serializer: &mut S,
-) -> Result<VecResolver, Error>
+fn serialize_vec_tuple3_string_note_option_string<S: Writer + Keys + ResolverAlloc>(value: &Vec<(String, Note, Option<String>)>, serializer: &mut S) -> Result<VecResolver, Error>
     ensures serialized { IfOk result (λ r. Serialized tuple3_string_note_option_string_definitions
         (vec tuple3_string_note_option_string_shape)
         (⟦<Vec<(String, Note, Option<String>)> as Archive>⟧.keys value.now)
         (⟦<Vec<(String, Note, Option<String>)> as Archive>⟧.meaning value.now)
         (⟦<Vec<(String, Note, Option<String>)> as Archive>⟧.flat value.now r)
         (S.state serializer.old) (S.state serializer.new)) }
-    ensures same_value { IfOk result (λ r. ⟦<Vec<(String, Note, Option<String>)> as Archive>⟧.belongs
+    ensures
+        same_value { IfOk result (λ r. ⟦<Vec<(String, Note, Option<String>)> as Archive>⟧.belongs
         value.now r) }
     ensures goes_on { GoesOn (S.state serializer.old) (S.state serializer.new) }
     ensures refused { IfErr result (IsRefused tuple3_string_note_option_string_definitions
@@ -503,7 +498,8 @@ fn serialize_note_table<S: Writer + Keys + ResolverAlloc>(
         (case 2 (value (⟦<Vec<(String, Note, Option<String>)> as Archive>⟧.meaning a0.now)
         no_value)) (case 2 (value (⟦<Vec<(String, Note, Option<String>)> as Archive>⟧.flat a0.now
         r.0) no_value)) (S.state serializer.old) (S.state serializer.new)) }
-    ensures same_values { IfOk result (λ r. ⟦<Vec<(String, Note, Option<String>)> as Archive>⟧.belongs
+    ensures
+        same_values { IfOk result (λ r. ⟦<Vec<(String, Note, Option<String>)> as Archive>⟧.belongs
         a0.now r.0 × Unit {0}) }
     ensures goes_on { GoesOn (S.state serializer.old) (S.state serializer.new) }
     ensures refused { IfErr result (IsRefused note_definitions note_shape
@@ -520,10 +516,7 @@ fn serialize_note_table<S: Writer + Keys + ResolverAlloc>(
 
 // Writes what a value owns.
 #[cycle(serialize_note)]
-fn serialize_whole_note<S: Writer + Keys + ResolverAlloc>(
-    value: &Note,
-    serializer: &mut S,
-) -> Result<NoteResolver, Error>
+fn serialize_whole_note<S: Writer + Keys + ResolverAlloc>(value: &Note, serializer: &mut S) -> Result<NoteResolver, Error>
     ensures serialized { IfOk result (λ r. Serialized note_definitions note_shape
         (⟦<Note as Archive>⟧.keys value.now) (⟦<Note as Archive>⟧.meaning value.now)
         (⟦<Note as Archive>⟧.flat value.now r) (S.state serializer.old) (S.state serializer.new)) }
@@ -552,10 +545,7 @@ fn serialize_whole_note<S: Writer + Keys + ResolverAlloc>(
 // The same by a call, whose result has its room only while it lasts.
 #[cycle(serialize_note)]
 #[inline(always)]
-fn serialize_note<S: Writer + Keys + ResolverAlloc>(
-    value: &Note,
-    serializer: &mut S,
-) -> Result<NoteResolver, Error>
+fn serialize_note<S: Writer + Keys + ResolverAlloc>(value: &Note, serializer: &mut S) -> Result<NoteResolver, Error>
     ensures serialized { IfOk result (λ r. Serialized note_definitions note_shape
         (⟦<Note as Archive>⟧.keys value.now) (⟦<Note as Archive>⟧.meaning value.now)
         (⟦<Note as Archive>⟧.flat value.now r) (S.state serializer.old) (S.state serializer.new)) }
@@ -607,14 +597,24 @@ impl<S: Writer + Keys + ResolverAlloc> SerializeUnsized<S> for Note {
     }
 }
 
+// The part of a value that is `Table` with the index 0.
+#[inline(always)]
+fn part_0_of_note_table<'a>(part: RawView<'a>) -> RawView<'a>
+    requires viewed { IsPartOf ⟦<ArchivedNote as ArchivePointee>⟧ part }
+    requires tag { part_tag part ≡ 2 }
+    ensures buffer { result.bytes.now ≡ part.entry.bytes.now }
+    ensures position { result.pos ≡ part.entry.pos + 4 }
+    ensures length { result.len ≡ 0 }
+    ensures viewed { IsPartOf ⟦<ArchivedVec<Tuple3StringNoteOptionString> as ArchivePointee>⟧
+        result }
+{
+    part_of_variant::<ArchivedNote, ArchivedVec<Tuple3StringNoteOptionString>>(part, 2, 0, 4)
+}
+
 // Reads a tuple back, part by part.
 #[cycle(read_note)]
 #[inline(always)]
-fn read_tuple3_string_note_option_string<D: Entries>(
-    alloc: Global,
-    part: RawView<'_>,
-    deserializer: &mut D,
-) -> Result<(String, Note, Option<String>), Error>
+fn read_tuple3_string_note_option_string<D: Entries>(alloc: Global, part: RawView<'_>, deserializer: &mut D) -> Result<(String, Note, Option<String>), Error>
     requires { IsPartOf ⟦<Tuple3StringNoteOptionString as ArchivePointee>⟧ part }
     ensures read { IfOk result (λ t. ReadsPart ⟦<Tuple3StringNoteOptionString as ArchivePointee>⟧
         part D.Entries deserializer (tuple3_string_note_option_string_meaning t)
@@ -649,17 +649,15 @@ fn read_tuple3_string_note_option_string<D: Entries>(
 // Reads a vector back.
 #[cycle(read_note)]
 #[inline(always)]
-fn read_vec_tuple3_string_note_option_string<D: Entries>(
-    alloc: Global,
-    part: RawView<'_>,
-    deserializer: &mut D,
-) -> Result<Vec<(String, Note, Option<String>)>, Error>
+fn read_vec_tuple3_string_note_option_string<D: Entries>(alloc: Global, part: RawView<'_>, deserializer: &mut D) -> Result<Vec<(String, Note, Option<String>)>, Error>
     requires { IsPartOf ⟦<ArchivedVec<Tuple3StringNoteOptionString> as ArchivePointee>⟧ part }
-    ensures read { IfOk result
+    ensures
+        read { IfOk result
         (λ t. ReadsPart ⟦<ArchivedVec<Tuple3StringNoteOptionString> as ArchivePointee>⟧ part
         D.Entries deserializer (list (each_meaning tuple3_string_note_option_string_meaning
         t.items)) (each_keys tuple3_string_note_option_string_keys t.items)) }
-    ensures refused { IfErr result
+    ensures
+        refused { IfErr result
         (RefusesPart ⟦<ArchivedVec<Tuple3StringNoteOptionString> as ArchivePointee>⟧ part D.Entries
         deserializer) }
 {
@@ -667,11 +665,7 @@ fn read_vec_tuple3_string_note_option_string<D: Entries>(
     let list = before_vec(view);
     let mut items = Vec::with_capacity(alloc, list.len())?;
     for index in 0..list.len() {
-        let item = match read_tuple3_string_note_option_string(
-            alloc,
-            list.index(index).part(),
-            deserializer,
-        ) {
+        let item = match read_tuple3_string_note_option_string(alloc, list.index(index).part(), deserializer) {
             Ok(item) => item,
             Err(error) => return Err(error),
         };
@@ -682,11 +676,7 @@ fn read_vec_tuple3_string_note_option_string<D: Entries>(
 
 // Reads `Text` back.
 #[inline(always)]
-fn read_note_text<D: Entries>(
-    alloc: Global,
-    part: RawView<'_>,
-    deserializer: &mut D,
-) -> Result<Note, Error>
+fn read_note_text<D: Entries>(alloc: Global, part: RawView<'_>, deserializer: &mut D) -> Result<Note, Error>
     requires viewed { IsPartOf ⟦<ArchivedNote as ArchivePointee>⟧ part }
     requires tag { part_tag part ≡ 0 }
     ensures read { IfOk result (Read ⟦<ArchivedNote as ArchivePointee>⟧ part D.Entries deserializer
@@ -704,11 +694,7 @@ fn read_note_text<D: Entries>(
 
 // Reads `Work` back.
 #[inline(always)]
-fn read_note_work<D: Entries>(
-    alloc: Global,
-    part: RawView<'_>,
-    deserializer: &mut D,
-) -> Result<Note, Error>
+fn read_note_work<D: Entries>(alloc: Global, part: RawView<'_>, deserializer: &mut D) -> Result<Note, Error>
     requires viewed { IsPartOf ⟦<ArchivedNote as ArchivePointee>⟧ part }
     requires tag { part_tag part ≡ 1 }
     ensures read { IfOk result (Read ⟦<ArchivedNote as ArchivePointee>⟧ part D.Entries deserializer
@@ -731,11 +717,7 @@ fn read_note_work<D: Entries>(
 // Reads `Table` back.
 #[cycle(read_note)]
 #[inline(never)]
-fn read_note_table<D: Entries>(
-    alloc: Global,
-    part: RawView<'_>,
-    deserializer: &mut D,
-) -> Result<Note, Error>
+fn read_note_table<D: Entries>(alloc: Global, part: RawView<'_>, deserializer: &mut D) -> Result<Note, Error>
     requires viewed { IsPartOf ⟦<ArchivedNote as ArchivePointee>⟧ part }
     requires tag { part_tag part ≡ 2 }
     ensures read { IfOk result (Read ⟦<ArchivedNote as ArchivePointee>⟧ part D.Entries deserializer
@@ -743,9 +725,7 @@ fn read_note_table<D: Entries>(
     ensures refused { IfErr result (RefusesPart ⟦<ArchivedNote as ArchivePointee>⟧ part D.Entries
         deserializer) }
 {
-    let p0 = part_of_variant::<ArchivedNote, ArchivedVec<Tuple3StringNoteOptionString>>(
-        part, 2, 0, 4,
-    );
+    let p0 = part_0_of_note_table(part);
     let a0 = match read_vec_tuple3_string_note_option_string(alloc, p0, deserializer) {
         Ok(a0) => a0,
         Err(error) => return Err(error),
@@ -756,11 +736,7 @@ fn read_note_table<D: Entries>(
 // Reads a value back.
 #[cycle(read_note)]
 #[inline(always)]
-fn read_note<D: Entries>(
-    alloc: Global,
-    part: RawView<'_>,
-    deserializer: &mut D,
-) -> Result<Note, Error>
+fn read_note<D: Entries>(alloc: Global, part: RawView<'_>, deserializer: &mut D) -> Result<Note, Error>
     requires { IsPartOf ⟦<ArchivedNote as ArchivePointee>⟧ part }
     ensures read { IfOk result (Read ⟦<ArchivedNote as ArchivePointee>⟧ part D.Entries deserializer
         ⟦<Note as Archive>⟧) }
@@ -798,12 +774,7 @@ pub enum ViewOfNote<'a> {
     Work(Ref<'a, ArchivedSortedMap<ArchivedU16, i8>>),
     /// Notes with names, and who wrote each, if that is known.
     Table(
-        Ref<
-            'a,
-            ArchivedVec<
-                ArchivedTuple3<ArchivedString, ArchivedNote, ArchivedOption<ArchivedString>>,
-            >,
-        >,
+        Ref<'a, ArchivedVec<ArchivedTuple3<ArchivedString, ArchivedNote, ArchivedOption<ArchivedString>>>>,
     ),
 }
 
@@ -840,13 +811,7 @@ impl<'a> NoteView<'a> for Ref<'a, ArchivedNote> {
             _ => {
                 let a0 = view_of_payload::<
                     ArchivedNote,
-                    ArchivedVec<
-                        ArchivedTuple3<
-                            ArchivedString,
-                            ArchivedNote,
-                            ArchivedOption<ArchivedString>,
-                        >,
-                    >,
+                    ArchivedVec<ArchivedTuple3<ArchivedString, ArchivedNote, ArchivedOption<ArchivedString>>>,
                 >(self, 2, 0, 4);
                 ViewOfNote::Table(a0)
             }
@@ -875,10 +840,7 @@ pub trait NoteSeal<'a> {
     /// The field `0` of `Table`.
     fn table_0_mut(
         self,
-    ) -> Seal<
-        'a,
-        ArchivedVec<ArchivedTuple3<ArchivedString, ArchivedNote, ArchivedOption<ArchivedString>>>,
-    >
+    ) -> Seal<'a, ArchivedVec<ArchivedTuple3<ArchivedString, ArchivedNote, ArchivedOption<ArchivedString>>>>
         requires come_to { sealed self }
         requires tag { tag self ≡ 2 };
 }
@@ -910,10 +872,7 @@ impl<'a> NoteSeal<'a> for Seal<'a, ArchivedNote> {
 
     fn table_0_mut(
         self,
-    ) -> Seal<
-        'a,
-        ArchivedVec<ArchivedTuple3<ArchivedString, ArchivedNote, ArchivedOption<ArchivedString>>>,
-    >
+    ) -> Seal<'a, ArchivedVec<ArchivedTuple3<ArchivedString, ArchivedNote, ArchivedOption<ArchivedString>>>>
         requires come_to { IsSealOf note_definitions (one ⟦<ArchivedNote as Portable>⟧.shape) self }
         requires tag { seal_tag self ≡ 2 }
         ensures { SealsPart note_definitions (one ⟦<ArchivedNote as Portable>⟧.shape)
@@ -923,9 +882,7 @@ impl<'a> NoteSeal<'a> for Seal<'a, ArchivedNote> {
     {
         seal_of_payload::<
             ArchivedNote,
-            ArchivedVec<
-                ArchivedTuple3<ArchivedString, ArchivedNote, ArchivedOption<ArchivedString>>,
-            >,
+            ArchivedVec<ArchivedTuple3<ArchivedString, ArchivedNote, ArchivedOption<ArchivedString>>>,
         >(self, 2, 0, 4)
     }
 }

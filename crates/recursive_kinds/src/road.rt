@@ -290,11 +290,7 @@ impl Archive for SharedRoadAt {
             (⟦<Self as Archive>⟧.flat self.now resolver) result }
     {
         let Place { bytes, pos, .. } = place;
-        ArchivedRc::<ArchivedRoad, RcFlavor>::resolve_from_ref(
-            self,
-            resolver,
-            Place::new(pos, bytes),
-        )
+        ArchivedRc::<ArchivedRoad, RcFlavor>::resolve_from_ref(self, resolver, Place::new(pos, bytes))
     }
 
     #[inline(always)]
@@ -431,11 +427,7 @@ impl Archive for WeakRoadAt {
     {
         let Place { bytes, pos, .. } = place;
         let none: Option<&WeakRoadAt> = None;
-        ArchivedRcWeak::<ArchivedRoad, RcFlavor>::resolve_from_ref(
-            none,
-            resolver,
-            Place::new(pos, bytes),
-        )
+        ArchivedRcWeak::<ArchivedRoad, RcFlavor>::resolve_from_ref(none, resolver, Place::new(pos, bytes))
     }
 
     #[inline(always)]
@@ -562,10 +554,7 @@ impl Archive for Road {
 
 // Writes what a shared pointer leads to, if its key is unknown.
 #[cycle(serialize_road)]
-fn serialize_shared_road<S: Sharing + Writer + ResolverAlloc>(
-    value: &Shared<Road>,
-    serializer: &mut S,
-) -> Result<RcResolver, Error>
+fn serialize_shared_road<S: Sharing + Writer + ResolverAlloc>(value: &Shared<Road>, serializer: &mut S) -> Result<RcResolver, Error>
     ensures serialized { IfOk result (λ r. Serialized road_definitions
         (shared rc_flavor (one road_shape)) (⟦<Shared<Road> as Archive>⟧.keys value.now)
         (⟦<Shared<Road> as Archive>⟧.meaning value.now)
@@ -599,10 +588,7 @@ fn serialize_shared_road<S: Sharing + Writer + ResolverAlloc>(
 
 // Writes what an option of a shared pointer leads to, if its key is unknown.
 #[cycle(serialize_road)]
-fn serialize_option_shared_road<S: Sharing + Writer + ResolverAlloc>(
-    value: &Option<Shared<Road>>,
-    serializer: &mut S,
-) -> Result<Option<RcResolver>, Error>
+fn serialize_option_shared_road<S: Sharing + Writer + ResolverAlloc>(value: &Option<Shared<Road>>, serializer: &mut S) -> Result<Option<RcResolver>, Error>
     ensures serialized { IfOk result (λ r. Serialized road_definitions
         (option_shape (shared rc_flavor (one road_shape)))
         (⟦<Option<Shared<Road>> as Archive>⟧.keys value.now)
@@ -644,10 +630,7 @@ fn serialize_option_shared_road<S: Sharing + Writer + ResolverAlloc>(
 
 // Writes what a weak pointer leads to, if its key is unknown.
 #[cycle(serialize_road)]
-fn serialize_weak_shared_road<S: Sharing + Writer + ResolverAlloc>(
-    value: &WeakShared<Road>,
-    serializer: &mut S,
-) -> Result<RcWeakResolver, Error>
+fn serialize_weak_shared_road<S: Sharing + Writer + ResolverAlloc>(value: &WeakShared<Road>, serializer: &mut S) -> Result<RcWeakResolver, Error>
     ensures serialized { IfOk result (λ r. Serialized road_definitions
         (weak rc_flavor (one road_shape)) (⟦<WeakShared<Road> as Archive>⟧.keys value.now)
         (⟦<WeakShared<Road> as Archive>⟧.meaning value.now)
@@ -720,10 +703,7 @@ fn serialize_road_way<S: Sharing + Writer + ResolverAlloc>(
 
 // Writes what a value owns.
 #[cycle(serialize_road)]
-fn serialize_whole_road<S: Sharing + Writer + ResolverAlloc>(
-    value: &Road,
-    serializer: &mut S,
-) -> Result<RoadResolver, Error>
+fn serialize_whole_road<S: Sharing + Writer + ResolverAlloc>(value: &Road, serializer: &mut S) -> Result<RoadResolver, Error>
     ensures serialized { IfOk result (λ r. Serialized road_definitions road_shape
         (⟦<Road as Archive>⟧.keys value.now) (⟦<Road as Archive>⟧.meaning value.now)
         (⟦<Road as Archive>⟧.flat value.now r) (S.state serializer.old) (S.state serializer.new)) }
@@ -755,10 +735,7 @@ fn serialize_whole_road<S: Sharing + Writer + ResolverAlloc>(
 // The same by a call, whose result has its room only while it lasts.
 #[cycle(serialize_road)]
 #[inline(always)]
-fn serialize_road<S: Sharing + Writer + ResolverAlloc>(
-    value: &Road,
-    serializer: &mut S,
-) -> Result<RoadResolver, Error>
+fn serialize_road<S: Sharing + Writer + ResolverAlloc>(value: &Road, serializer: &mut S) -> Result<RoadResolver, Error>
     ensures serialized { IfOk result (λ r. Serialized road_definitions road_shape
         (⟦<Road as Archive>⟧.keys value.now) (⟦<Road as Archive>⟧.meaning value.now)
         (⟦<Road as Archive>⟧.flat value.now r) (S.state serializer.old) (S.state serializer.new)) }
@@ -810,18 +787,70 @@ impl<S: Sharing + Writer + ResolverAlloc> SerializeUnsized<S> for Road {
     }
 }
 
+// The part of a value that is `Way` with the index 0.
+#[inline(always)]
+fn part_0_of_road_way<'a>(part: RawView<'a>) -> RawView<'a>
+    requires viewed { IsPartOf ⟦<ArchivedRoad as ArchivePointee>⟧ part }
+    requires tag { part_tag part ≡ 0 }
+    ensures buffer { result.bytes.now ≡ part.entry.bytes.now }
+    ensures position { result.pos ≡ part.entry.pos + 1 }
+    ensures length { result.len ≡ 0 }
+    ensures viewed { IsPartOf ⟦<u8 as ArchivePointee>⟧ result }
+{
+    part_of_variant::<ArchivedRoad, u8>(part, 0, 0, 1)
+}
+
+// The part of a value that is `Way` with the index 1.
+#[inline(always)]
+fn part_1_of_road_way<'a>(part: RawView<'a>) -> RawView<'a>
+    requires viewed { IsPartOf ⟦<ArchivedRoad as ArchivePointee>⟧ part }
+    requires tag { part_tag part ≡ 0 }
+    ensures buffer { result.bytes.now ≡ part.entry.bytes.now }
+    ensures position { result.pos ≡ part.entry.pos + 4 }
+    ensures length { result.len ≡ 0 }
+    ensures
+        viewed { IsPartOf ⟦<ArchivedOption<ArchivedRc<ArchivedRoad, RcFlavor>> as ArchivePointee>⟧
+        result }
+{
+    part_of_variant::<ArchivedRoad, ArchivedOption<ArchivedRc<ArchivedRoad, RcFlavor>>>(
+        part, 0, 1, 4,
+    )
+}
+
+// The part of a value that is `Detour` with the index 0.
+#[inline(always)]
+fn part_0_of_road_detour<'a>(part: RawView<'a>) -> RawView<'a>
+    requires viewed { IsPartOf ⟦<ArchivedRoad as ArchivePointee>⟧ part }
+    requires tag { part_tag part ≡ 1 }
+    ensures buffer { result.bytes.now ≡ part.entry.bytes.now }
+    ensures position { result.pos ≡ part.entry.pos + 4 }
+    ensures length { result.len ≡ 0 }
+    ensures viewed { IsPartOf ⟦<ArchivedRc<ArchivedRoad, RcFlavor> as ArchivePointee>⟧ result }
+{
+    part_of_variant::<ArchivedRoad, ArchivedRc<ArchivedRoad, RcFlavor>>(part, 1, 0, 4)
+}
+
+// The part of a value that is `Detour` with the index 1.
+#[inline(always)]
+fn part_1_of_road_detour<'a>(part: RawView<'a>) -> RawView<'a>
+    requires viewed { IsPartOf ⟦<ArchivedRoad as ArchivePointee>⟧ part }
+    requires tag { part_tag part ≡ 1 }
+    ensures buffer { result.bytes.now ≡ part.entry.bytes.now }
+    ensures position { result.pos ≡ part.entry.pos + 8 }
+    ensures length { result.len ≡ 0 }
+    ensures viewed { IsPartOf ⟦<ArchivedRcWeak<ArchivedRoad, RcFlavor> as ArchivePointee>⟧ result }
+{
+    part_of_variant::<ArchivedRoad, ArchivedRcWeak<ArchivedRoad, RcFlavor>>(part, 1, 1, 8)
+}
+
 // Reads a shared value back.
 #[cycle(read_road)]
-fn read_shared_road<D: Pooling<Shared<Road>>>(
-    alloc: Global,
-    part: RawView<'_>,
-    levels: usize,
-    deserializer: &mut D,
-) -> Result<Shared<Road>, Error>
+fn read_shared_road<D: Pooling<Shared<Road>>>(alloc: Global, part: RawView<'_>, levels: usize, deserializer: &mut D) -> Result<Shared<Road>, Error>
     requires { IsPartOf ⟦<ArchivedRc<ArchivedRoad, RcFlavor> as ArchivePointee>⟧ part }
     ensures read { IfOk result (Read ⟦<ArchivedRc<ArchivedRoad, RcFlavor> as ArchivePointee>⟧ part
         D.Entries deserializer ⟦<Shared<Road> as Archive>⟧) }
-    ensures refused { IfErr result (RefusesPart ⟦<ArchivedRc<ArchivedRoad, RcFlavor> as ArchivePointee>⟧
+    ensures
+        refused { IfErr result (RefusesPart ⟦<ArchivedRc<ArchivedRoad, RcFlavor> as ArchivePointee>⟧
         part D.Entries deserializer) }
 {
     let known = match begin_reading::<ArchivedRoad, RcFlavor, Shared<Road>, D>(part, deserializer) {
@@ -836,30 +865,22 @@ fn read_shared_road<D: Pooling<Shared<Road>>>(
                 Ok(value) => value,
                 Err(error) => return Err(error),
             };
-            finish_reading::<ArchivedRoad, RcFlavor, Shared<Road>, D>(
-                alloc,
-                part,
-                value,
-                deserializer,
-            )
+            finish_reading::<ArchivedRoad, RcFlavor, Shared<Road>, D>(alloc, part, value, deserializer)
         }
     }
 }
 
 // Reads an option back.
 #[cycle(read_road)]
-fn read_option_shared_road<D: Pooling<Shared<Road>>>(
-    alloc: Global,
-    part: RawView<'_>,
-    levels: usize,
-    deserializer: &mut D,
-) -> Result<Option<Shared<Road>>, Error>
+fn read_option_shared_road<D: Pooling<Shared<Road>>>(alloc: Global, part: RawView<'_>, levels: usize, deserializer: &mut D) -> Result<Option<Shared<Road>>, Error>
     requires { IsPartOf ⟦<ArchivedOption<ArchivedRc<ArchivedRoad, RcFlavor>> as ArchivePointee>⟧
         part }
-    ensures read { IfOk result
+    ensures
+        read { IfOk result
         (Read ⟦<ArchivedOption<ArchivedRc<ArchivedRoad, RcFlavor>> as ArchivePointee>⟧ part
         D.Entries deserializer ⟦<Option<Shared<Road>> as Archive>⟧) }
-    ensures refused { IfErr result
+    ensures
+        refused { IfErr result
         (RefusesPart ⟦<ArchivedOption<ArchivedRc<ArchivedRoad, RcFlavor>> as ArchivePointee>⟧ part
         D.Entries deserializer) }
 {
@@ -875,16 +896,12 @@ fn read_option_shared_road<D: Pooling<Shared<Road>>>(
 
 // Reads a weak pointer back.
 #[cycle(read_road)]
-fn read_weak_shared_road<D: Pooling<Shared<Road>>>(
-    alloc: Global,
-    part: RawView<'_>,
-    levels: usize,
-    deserializer: &mut D,
-) -> Result<WeakShared<Road>, Error>
+fn read_weak_shared_road<D: Pooling<Shared<Road>>>(alloc: Global, part: RawView<'_>, levels: usize, deserializer: &mut D) -> Result<WeakShared<Road>, Error>
     requires { IsPartOf ⟦<ArchivedRcWeak<ArchivedRoad, RcFlavor> as ArchivePointee>⟧ part }
     ensures read { IfOk result (Read ⟦<ArchivedRcWeak<ArchivedRoad, RcFlavor> as ArchivePointee>⟧
         part D.Entries deserializer ⟦<WeakShared<Road> as Archive>⟧) }
-    ensures refused { IfErr result
+    ensures
+        refused { IfErr result
         (RefusesPart ⟦<ArchivedRcWeak<ArchivedRoad, RcFlavor> as ArchivePointee>⟧ part D.Entries
         deserializer) }
 {
@@ -917,12 +934,7 @@ fn read_weak_shared_road<D: Pooling<Shared<Road>>>(
 
 // Reads `Way` back.
 #[cycle(read_road)]
-fn read_road_way<D: Pooling<Shared<Road>>>(
-    alloc: Global,
-    part: RawView<'_>,
-    levels: usize,
-    deserializer: &mut D,
-) -> Result<Road, Error>
+fn read_road_way<D: Pooling<Shared<Road>>>(alloc: Global, part: RawView<'_>, levels: usize, deserializer: &mut D) -> Result<Road, Error>
     requires viewed { IsPartOf ⟦<ArchivedRoad as ArchivePointee>⟧ part }
     requires tag { part_tag part ≡ 0 }
     ensures read { IfOk result (Read ⟦<ArchivedRoad as ArchivePointee>⟧ part D.Entries deserializer
@@ -930,14 +942,12 @@ fn read_road_way<D: Pooling<Shared<Road>>>(
     ensures refused { IfErr result (RefusesPart ⟦<ArchivedRoad as ArchivePointee>⟧ part D.Entries
         deserializer) }
 {
-    let p0 = part_of_variant::<ArchivedRoad, u8>(part, 0, 0, 1);
+    let p0 = part_0_of_road_way(part);
     let a0 = match read_part::<u8, u8, D>(alloc, p0, deserializer) {
         Ok(a0) => a0,
         Err(error) => return Err(error),
     };
-    let p1 = part_of_variant::<ArchivedRoad, ArchivedOption<ArchivedRc<ArchivedRoad, RcFlavor>>>(
-        part, 0, 1, 4,
-    );
+    let p1 = part_1_of_road_way(part);
     let a1 = match read_option_shared_road(alloc, p1, levels, deserializer) {
         Ok(a1) => a1,
         Err(error) => return Err(error),
@@ -947,12 +957,7 @@ fn read_road_way<D: Pooling<Shared<Road>>>(
 
 // Reads `Detour` back.
 #[cycle(read_road)]
-fn read_road_detour<D: Pooling<Shared<Road>>>(
-    alloc: Global,
-    part: RawView<'_>,
-    levels: usize,
-    deserializer: &mut D,
-) -> Result<Road, Error>
+fn read_road_detour<D: Pooling<Shared<Road>>>(alloc: Global, part: RawView<'_>, levels: usize, deserializer: &mut D) -> Result<Road, Error>
     requires viewed { IsPartOf ⟦<ArchivedRoad as ArchivePointee>⟧ part }
     requires tag { part_tag part ≡ 1 }
     ensures read { IfOk result (Read ⟦<ArchivedRoad as ArchivePointee>⟧ part D.Entries deserializer
@@ -960,12 +965,12 @@ fn read_road_detour<D: Pooling<Shared<Road>>>(
     ensures refused { IfErr result (RefusesPart ⟦<ArchivedRoad as ArchivePointee>⟧ part D.Entries
         deserializer) }
 {
-    let p0 = part_of_variant::<ArchivedRoad, ArchivedRc<ArchivedRoad, RcFlavor>>(part, 1, 0, 4);
+    let p0 = part_0_of_road_detour(part);
     let a0 = match read_shared_road(alloc, p0, levels, deserializer) {
         Ok(a0) => a0,
         Err(error) => return Err(error),
     };
-    let p1 = part_of_variant::<ArchivedRoad, ArchivedRcWeak<ArchivedRoad, RcFlavor>>(part, 1, 1, 8);
+    let p1 = part_1_of_road_detour(part);
     let a1 = match read_weak_shared_road(alloc, p1, levels, deserializer) {
         Ok(a1) => a1,
         Err(error) => return Err(error),
@@ -975,12 +980,7 @@ fn read_road_detour<D: Pooling<Shared<Road>>>(
 
 // Reads a value back.
 #[cycle(read_road)]
-fn read_road<D: Pooling<Shared<Road>>>(
-    alloc: Global,
-    part: RawView<'_>,
-    levels: usize,
-    deserializer: &mut D,
-) -> Result<Road, Error>
+fn read_road<D: Pooling<Shared<Road>>>(alloc: Global, part: RawView<'_>, levels: usize, deserializer: &mut D) -> Result<Road, Error>
     requires { IsPartOf ⟦<ArchivedRoad as ArchivePointee>⟧ part }
     ensures read { IfOk result (Read ⟦<ArchivedRoad as ArchivePointee>⟧ part D.Entries deserializer
         ⟦<Road as Archive>⟧) }

@@ -220,10 +220,7 @@ impl Archive for Dir {
 
 // Writes what each of the values owns, in order.
 #[cycle(serialize_dir)]
-fn serialize_each_entry<S: Writer + Keys + ResolverAlloc>(
-    values: &[Entry],
-    serializer: &mut S,
-) -> Result<Vec<<Entry as Archive>::Resolver, S::Alloc>, Error>
+fn serialize_each_entry<S: Writer + Keys + ResolverAlloc>(values: &[Entry], serializer: &mut S) -> Result<Vec<<Entry as Archive>::Resolver, S::Alloc>, Error>
     ensures serialized { IfOk result (λ rs. SerializedRun dir_definitions entry_shape
         (length values.now) (each_keys ⟦<Entry as Archive>⟧.keys values.now)
         (each_meaning ⟦<Entry as Archive>⟧.meaning values.now)
@@ -251,10 +248,7 @@ fn serialize_each_entry<S: Writer + Keys + ResolverAlloc>(
 
 // Writes what a vector owns.
 #[cycle(serialize_dir)]
-fn serialize_vec_entry<S: Writer + Keys + ResolverAlloc>(
-    value: &Vec<Entry>,
-    serializer: &mut S,
-) -> Result<VecResolver, Error>
+fn serialize_vec_entry<S: Writer + Keys + ResolverAlloc>(value: &Vec<Entry>, serializer: &mut S) -> Result<VecResolver, Error>
     ensures serialized { IfOk result (λ r. Serialized dir_definitions (vec entry_shape)
         (⟦<Vec<Entry> as Archive>⟧.keys value.now) (⟦<Vec<Entry> as Archive>⟧.meaning value.now)
         (⟦<Vec<Entry> as Archive>⟧.flat value.now r) (S.state serializer.old)
@@ -281,10 +275,7 @@ fn serialize_vec_entry<S: Writer + Keys + ResolverAlloc>(
 
 // Writes what a value owns, part by part.
 #[cycle(serialize_dir)]
-fn serialize_whole_dir<S: Writer + Keys + ResolverAlloc>(
-    value: &Dir,
-    serializer: &mut S,
-) -> Result<DirResolver, Error>
+fn serialize_whole_dir<S: Writer + Keys + ResolverAlloc>(value: &Dir, serializer: &mut S) -> Result<DirResolver, Error>
     ensures serialized { IfOk result (λ r. Serialized dir_definitions dir_shape
         (⟦<Dir as Archive>⟧.keys value.now) (⟦<Dir as Archive>⟧.meaning value.now)
         (⟦<Dir as Archive>⟧.flat value.now r) (S.state serializer.old) (S.state serializer.new)) }
@@ -302,18 +293,13 @@ fn serialize_whole_dir<S: Writer + Keys + ResolverAlloc>(
         Ok(a1) => a1,
         Err(error) => return Err(handed_on(error)),
     };
-    Ok(DirResolver {
-        kept: (a0, (a1, ())),
-    })
+    Ok(DirResolver { kept: (a0, (a1, ())) })
 }
 
 // The same by a call, whose result has its room only while it lasts.
 #[cycle(serialize_dir)]
 #[inline(always)]
-fn serialize_dir<S: Writer + Keys + ResolverAlloc>(
-    value: &Dir,
-    serializer: &mut S,
-) -> Result<DirResolver, Error>
+fn serialize_dir<S: Writer + Keys + ResolverAlloc>(value: &Dir, serializer: &mut S) -> Result<DirResolver, Error>
     ensures serialized { IfOk result (λ r. Serialized dir_definitions dir_shape
         (⟦<Dir as Archive>⟧.keys value.now) (⟦<Dir as Archive>⟧.meaning value.now)
         (⟦<Dir as Archive>⟧.flat value.now r) (S.state serializer.old) (S.state serializer.new)) }
@@ -368,11 +354,7 @@ impl<S: Writer + Keys + ResolverAlloc> SerializeUnsized<S> for Dir {
 // Reads a vector back. One with no elements takes no call, whose result would go through memory.
 #[cycle(read_dir)]
 #[inline(always)]
-fn read_vec_entry<D: Entries>(
-    alloc: Global,
-    part: RawView<'_>,
-    deserializer: &mut D,
-) -> Result<Vec<Entry>, Error>
+fn read_vec_entry<D: Entries>(alloc: Global, part: RawView<'_>, deserializer: &mut D) -> Result<Vec<Entry>, Error>
     requires { IsPartOf ⟦<ArchivedVec<ArchivedEntry> as ArchivePointee>⟧ part }
     ensures read { IfOk result (Read ⟦<ArchivedVec<ArchivedEntry> as ArchivePointee>⟧ part D.Entries
         deserializer ⟦<Vec<Entry> as Archive>⟧) }
@@ -389,11 +371,7 @@ fn read_vec_entry<D: Entries>(
 // Reads the elements of a vector back.
 #[cycle(read_dir)]
 #[inline(always)]
-fn read_each_entry<D: Entries>(
-    alloc: Global,
-    part: RawView<'_>,
-    deserializer: &mut D,
-) -> Result<Vec<Entry>, Error>
+fn read_each_entry<D: Entries>(alloc: Global, part: RawView<'_>, deserializer: &mut D) -> Result<Vec<Entry>, Error>
     requires { IsPartOf ⟦<ArchivedVec<ArchivedEntry> as ArchivePointee>⟧ part }
     ensures read { IfOk result (Read ⟦<ArchivedVec<ArchivedEntry> as ArchivePointee>⟧ part D.Entries
         deserializer ⟦<Vec<Entry> as Archive>⟧) }
@@ -415,11 +393,7 @@ fn read_each_entry<D: Entries>(
 
 // Reads a value back, part by part.
 #[cycle(read_dir)]
-fn read_dir<D: Entries>(
-    alloc: Global,
-    part: RawView<'_>,
-    deserializer: &mut D,
-) -> Result<Dir, Error>
+fn read_dir<D: Entries>(alloc: Global, part: RawView<'_>, deserializer: &mut D) -> Result<Dir, Error>
     requires { IsPartOf ⟦<ArchivedDir as ArchivePointee>⟧ part }
     ensures read { IfOk result (Read ⟦<ArchivedDir as ArchivePointee>⟧ part D.Entries deserializer
         ⟦<Dir as Archive>⟧) }
@@ -737,10 +711,7 @@ impl Archive for Entry {
 
 // Writes what a box owns.
 #[cycle(serialize_dir)]
-fn serialize_box_dir<S: Writer + Keys + ResolverAlloc>(
-    value: &Box<Dir>,
-    serializer: &mut S,
-) -> Result<BoxResolver, Error>
+fn serialize_box_dir<S: Writer + Keys + ResolverAlloc>(value: &Box<Dir>, serializer: &mut S) -> Result<BoxResolver, Error>
     ensures serialized { IfOk result (λ r. Serialized entry_definitions (boxed (one dir_shape))
         (⟦<Box<Dir> as Archive>⟧.keys value.now) (⟦<Box<Dir> as Archive>⟧.meaning value.now)
         (⟦<Box<Dir> as Archive>⟧.flat value.now r) (S.state serializer.old)
@@ -811,10 +782,7 @@ fn serialize_entry_sub<S: Writer + Keys + ResolverAlloc>(
 
 // Writes what a value owns.
 #[cycle(serialize_dir)]
-fn serialize_whole_entry<S: Writer + Keys + ResolverAlloc>(
-    value: &Entry,
-    serializer: &mut S,
-) -> Result<EntryResolver, Error>
+fn serialize_whole_entry<S: Writer + Keys + ResolverAlloc>(value: &Entry, serializer: &mut S) -> Result<EntryResolver, Error>
     ensures serialized { IfOk result (λ r. Serialized entry_definitions entry_shape
         (⟦<Entry as Archive>⟧.keys value.now) (⟦<Entry as Archive>⟧.meaning value.now)
         (⟦<Entry as Archive>⟧.flat value.now r) (S.state serializer.old) (S.state serializer.new)) }
@@ -839,10 +807,7 @@ fn serialize_whole_entry<S: Writer + Keys + ResolverAlloc>(
 // The same by a call, whose result has its room only while it lasts.
 #[cycle(serialize_dir)]
 #[inline(always)]
-fn serialize_entry<S: Writer + Keys + ResolverAlloc>(
-    value: &Entry,
-    serializer: &mut S,
-) -> Result<EntryResolver, Error>
+fn serialize_entry<S: Writer + Keys + ResolverAlloc>(value: &Entry, serializer: &mut S) -> Result<EntryResolver, Error>
     ensures serialized { IfOk result (λ r. Serialized entry_definitions entry_shape
         (⟦<Entry as Archive>⟧.keys value.now) (⟦<Entry as Archive>⟧.meaning value.now)
         (⟦<Entry as Archive>⟧.flat value.now r) (S.state serializer.old) (S.state serializer.new)) }
@@ -894,14 +859,23 @@ impl<S: Writer + Keys + ResolverAlloc> SerializeUnsized<S> for Entry {
     }
 }
 
+// The part of a value that is `Sub` with the index 0.
+#[inline(always)]
+fn part_0_of_entry_sub<'a>(part: RawView<'a>) -> RawView<'a>
+    requires viewed { IsPartOf ⟦<ArchivedEntry as ArchivePointee>⟧ part }
+    requires tag { part_tag part ≡ 1 }
+    ensures buffer { result.bytes.now ≡ part.entry.bytes.now }
+    ensures position { result.pos ≡ part.entry.pos + 4 }
+    ensures length { result.len ≡ 0 }
+    ensures viewed { IsPartOf ⟦<ArchivedBox<ArchivedDir> as ArchivePointee>⟧ result }
+{
+    part_of_variant::<ArchivedEntry, ArchivedBox<ArchivedDir>>(part, 1, 0, 4)
+}
+
 // Reads a box back.
 #[cycle(read_dir)]
 #[inline(always)]
-fn read_box_dir<D: Entries>(
-    alloc: Global,
-    part: RawView<'_>,
-    deserializer: &mut D,
-) -> Result<Box<Dir>, Error>
+fn read_box_dir<D: Entries>(alloc: Global, part: RawView<'_>, deserializer: &mut D) -> Result<Box<Dir>, Error>
     requires { IsPartOf ⟦<ArchivedBox<ArchivedDir> as ArchivePointee>⟧ part }
     ensures read { IfOk result (Read ⟦<ArchivedBox<ArchivedDir> as ArchivePointee>⟧ part D.Entries
         deserializer ⟦<Box<Dir> as Archive>⟧) }
@@ -919,11 +893,7 @@ fn read_box_dir<D: Entries>(
 
 // Reads `File` back.
 #[inline(always)]
-fn read_entry_file<D: Entries>(
-    alloc: Global,
-    part: RawView<'_>,
-    deserializer: &mut D,
-) -> Result<Entry, Error>
+fn read_entry_file<D: Entries>(alloc: Global, part: RawView<'_>, deserializer: &mut D) -> Result<Entry, Error>
     requires viewed { IsPartOf ⟦<ArchivedEntry as ArchivePointee>⟧ part }
     requires tag { part_tag part ≡ 0 }
     ensures read { IfOk result (Read ⟦<ArchivedEntry as ArchivePointee>⟧ part D.Entries deserializer
@@ -941,11 +911,7 @@ fn read_entry_file<D: Entries>(
 
 // Reads `Sub` back.
 #[cycle(read_dir)]
-fn read_entry_sub<D: Entries>(
-    alloc: Global,
-    part: RawView<'_>,
-    deserializer: &mut D,
-) -> Result<Entry, Error>
+fn read_entry_sub<D: Entries>(alloc: Global, part: RawView<'_>, deserializer: &mut D) -> Result<Entry, Error>
     requires viewed { IsPartOf ⟦<ArchivedEntry as ArchivePointee>⟧ part }
     requires tag { part_tag part ≡ 1 }
     ensures read { IfOk result (Read ⟦<ArchivedEntry as ArchivePointee>⟧ part D.Entries deserializer
@@ -953,7 +919,7 @@ fn read_entry_sub<D: Entries>(
     ensures refused { IfErr result (RefusesPart ⟦<ArchivedEntry as ArchivePointee>⟧ part D.Entries
         deserializer) }
 {
-    let p0 = part_of_variant::<ArchivedEntry, ArchivedBox<ArchivedDir>>(part, 1, 0, 4);
+    let p0 = part_0_of_entry_sub(part);
     let a0 = match read_box_dir(alloc, p0, deserializer) {
         Ok(a0) => a0,
         Err(error) => return Err(error),
@@ -964,11 +930,7 @@ fn read_entry_sub<D: Entries>(
 // Reads a value back.
 #[cycle(read_dir)]
 #[inline(always)]
-fn read_entry<D: Entries>(
-    alloc: Global,
-    part: RawView<'_>,
-    deserializer: &mut D,
-) -> Result<Entry, Error>
+fn read_entry<D: Entries>(alloc: Global, part: RawView<'_>, deserializer: &mut D) -> Result<Entry, Error>
     requires { IsPartOf ⟦<ArchivedEntry as ArchivePointee>⟧ part }
     ensures read { IfOk result (Read ⟦<ArchivedEntry as ArchivePointee>⟧ part D.Entries deserializer
         ⟦<Entry as Archive>⟧) }

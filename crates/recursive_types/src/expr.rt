@@ -327,10 +327,7 @@ impl Archive for Expr {
 
 // Writes what a box owns.
 #[cycle(serialize_expr)]
-fn serialize_box_expr<S: Writer + Keys + ResolverAlloc>(
-    value: &Box<Expr>,
-    serializer: &mut S,
-) -> Result<BoxResolver, Error>
+fn serialize_box_expr<S: Writer + Keys + ResolverAlloc>(value: &Box<Expr>, serializer: &mut S) -> Result<BoxResolver, Error>
     ensures serialized { IfOk result (λ r. Serialized expr_definitions (boxed (one expr_shape))
         (⟦<Box<Expr> as Archive>⟧.keys value.now) (⟦<Box<Expr> as Archive>⟧.meaning value.now)
         (⟦<Box<Expr> as Archive>⟧.flat value.now r) (S.state serializer.old)
@@ -354,10 +351,7 @@ fn serialize_box_expr<S: Writer + Keys + ResolverAlloc>(
 
 // Writes what each of the values owns, in order.
 #[cycle(serialize_expr)]
-fn serialize_each_expr<S: Writer + Keys + ResolverAlloc>(
-    values: &[Expr],
-    serializer: &mut S,
-) -> Result<Vec<<Expr as Archive>::Resolver, S::Alloc>, Error>
+fn serialize_each_expr<S: Writer + Keys + ResolverAlloc>(values: &[Expr], serializer: &mut S) -> Result<Vec<<Expr as Archive>::Resolver, S::Alloc>, Error>
     ensures serialized { IfOk result (λ rs. SerializedRun expr_definitions expr_shape
         (length values.now) (each_keys ⟦<Expr as Archive>⟧.keys values.now)
         (each_meaning ⟦<Expr as Archive>⟧.meaning values.now)
@@ -385,10 +379,7 @@ fn serialize_each_expr<S: Writer + Keys + ResolverAlloc>(
 
 // Writes what a vector owns.
 #[cycle(serialize_expr)]
-fn serialize_vec_expr<S: Writer + Keys + ResolverAlloc>(
-    value: &Vec<Expr>,
-    serializer: &mut S,
-) -> Result<VecResolver, Error>
+fn serialize_vec_expr<S: Writer + Keys + ResolverAlloc>(value: &Vec<Expr>, serializer: &mut S) -> Result<VecResolver, Error>
     ensures serialized { IfOk result (λ r. Serialized expr_definitions (vec expr_shape)
         (⟦<Vec<Expr> as Archive>⟧.keys value.now) (⟦<Vec<Expr> as Archive>⟧.meaning value.now)
         (⟦<Vec<Expr> as Archive>⟧.flat value.now r) (S.state serializer.old)
@@ -471,10 +462,7 @@ fn serialize_expr_call<S: Writer + Keys + ResolverAlloc>(
 
 // Writes what a value owns.
 #[cycle(serialize_expr)]
-fn serialize_whole_expr<S: Writer + Keys + ResolverAlloc>(
-    value: &Expr,
-    serializer: &mut S,
-) -> Result<ExprResolver, Error>
+fn serialize_whole_expr<S: Writer + Keys + ResolverAlloc>(value: &Expr, serializer: &mut S) -> Result<ExprResolver, Error>
     ensures serialized { IfOk result (λ r. Serialized expr_definitions expr_shape
         (⟦<Expr as Archive>⟧.keys value.now) (⟦<Expr as Archive>⟧.meaning value.now)
         (⟦<Expr as Archive>⟧.flat value.now r) (S.state serializer.old) (S.state serializer.new)) }
@@ -510,10 +498,7 @@ fn serialize_whole_expr<S: Writer + Keys + ResolverAlloc>(
 // The same by a call, whose result has its room only while it lasts.
 #[cycle(serialize_expr)]
 #[inline(always)]
-fn serialize_expr<S: Writer + Keys + ResolverAlloc>(
-    value: &Expr,
-    serializer: &mut S,
-) -> Result<ExprResolver, Error>
+fn serialize_expr<S: Writer + Keys + ResolverAlloc>(value: &Expr, serializer: &mut S) -> Result<ExprResolver, Error>
     ensures serialized { IfOk result (λ r. Serialized expr_definitions expr_shape
         (⟦<Expr as Archive>⟧.keys value.now) (⟦<Expr as Archive>⟧.meaning value.now)
         (⟦<Expr as Archive>⟧.flat value.now r) (S.state serializer.old) (S.state serializer.new)) }
@@ -565,14 +550,62 @@ impl<S: Writer + Keys + ResolverAlloc> SerializeUnsized<S> for Expr {
     }
 }
 
+// The part of a value that is `Add` with the index 0.
+#[inline(always)]
+fn part_0_of_expr_add<'a>(part: RawView<'a>) -> RawView<'a>
+    requires viewed { IsPartOf ⟦<ArchivedExpr as ArchivePointee>⟧ part }
+    requires tag { part_tag part ≡ 1 }
+    ensures buffer { result.bytes.now ≡ part.entry.bytes.now }
+    ensures position { result.pos ≡ part.entry.pos + 4 }
+    ensures length { result.len ≡ 0 }
+    ensures viewed { IsPartOf ⟦<ArchivedBox<ArchivedExpr> as ArchivePointee>⟧ result }
+{
+    part_of_variant::<ArchivedExpr, ArchivedBox<ArchivedExpr>>(part, 1, 0, 4)
+}
+
+// The part of a value that is `Add` with the index 1.
+#[inline(always)]
+fn part_1_of_expr_add<'a>(part: RawView<'a>) -> RawView<'a>
+    requires viewed { IsPartOf ⟦<ArchivedExpr as ArchivePointee>⟧ part }
+    requires tag { part_tag part ≡ 1 }
+    ensures buffer { result.bytes.now ≡ part.entry.bytes.now }
+    ensures position { result.pos ≡ part.entry.pos + 8 }
+    ensures length { result.len ≡ 0 }
+    ensures viewed { IsPartOf ⟦<ArchivedBox<ArchivedExpr> as ArchivePointee>⟧ result }
+{
+    part_of_variant::<ArchivedExpr, ArchivedBox<ArchivedExpr>>(part, 1, 1, 8)
+}
+
+// The part of a value that is `Call` with the index 0.
+#[inline(always)]
+fn part_0_of_expr_call<'a>(part: RawView<'a>) -> RawView<'a>
+    requires viewed { IsPartOf ⟦<ArchivedExpr as ArchivePointee>⟧ part }
+    requires tag { part_tag part ≡ 2 }
+    ensures buffer { result.bytes.now ≡ part.entry.bytes.now }
+    ensures position { result.pos ≡ part.entry.pos + 4 }
+    ensures length { result.len ≡ 0 }
+    ensures viewed { IsPartOf ⟦<ArchivedString as ArchivePointee>⟧ result }
+{
+    part_of_variant::<ArchivedExpr, ArchivedString>(part, 2, 0, 4)
+}
+
+// The part of a value that is `Call` with the index 1.
+#[inline(always)]
+fn part_1_of_expr_call<'a>(part: RawView<'a>) -> RawView<'a>
+    requires viewed { IsPartOf ⟦<ArchivedExpr as ArchivePointee>⟧ part }
+    requires tag { part_tag part ≡ 2 }
+    ensures buffer { result.bytes.now ≡ part.entry.bytes.now }
+    ensures position { result.pos ≡ part.entry.pos + 12 }
+    ensures length { result.len ≡ 0 }
+    ensures viewed { IsPartOf ⟦<ArchivedVec<ArchivedExpr> as ArchivePointee>⟧ result }
+{
+    part_of_variant::<ArchivedExpr, ArchivedVec<ArchivedExpr>>(part, 2, 1, 12)
+}
+
 // Reads a box back.
 #[cycle(read_expr)]
 #[inline(always)]
-fn read_box_expr<D: Entries>(
-    alloc: Global,
-    part: RawView<'_>,
-    deserializer: &mut D,
-) -> Result<Box<Expr>, Error>
+fn read_box_expr<D: Entries>(alloc: Global, part: RawView<'_>, deserializer: &mut D) -> Result<Box<Expr>, Error>
     requires { IsPartOf ⟦<ArchivedBox<ArchivedExpr> as ArchivePointee>⟧ part }
     ensures read { IfOk result (Read ⟦<ArchivedBox<ArchivedExpr> as ArchivePointee>⟧ part D.Entries
         deserializer ⟦<Box<Expr> as Archive>⟧) }
@@ -591,11 +624,7 @@ fn read_box_expr<D: Entries>(
 // Reads a vector back. One with no elements takes no call, whose result would go through memory.
 #[cycle(read_expr)]
 #[inline(always)]
-fn read_vec_expr<D: Entries>(
-    alloc: Global,
-    part: RawView<'_>,
-    deserializer: &mut D,
-) -> Result<Vec<Expr>, Error>
+fn read_vec_expr<D: Entries>(alloc: Global, part: RawView<'_>, deserializer: &mut D) -> Result<Vec<Expr>, Error>
     requires { IsPartOf ⟦<ArchivedVec<ArchivedExpr> as ArchivePointee>⟧ part }
     ensures read { IfOk result (Read ⟦<ArchivedVec<ArchivedExpr> as ArchivePointee>⟧ part D.Entries
         deserializer ⟦<Vec<Expr> as Archive>⟧) }
@@ -612,11 +641,7 @@ fn read_vec_expr<D: Entries>(
 // Reads the elements of a vector back.
 #[cycle(read_expr)]
 #[inline(always)]
-fn read_each_expr<D: Entries>(
-    alloc: Global,
-    part: RawView<'_>,
-    deserializer: &mut D,
-) -> Result<Vec<Expr>, Error>
+fn read_each_expr<D: Entries>(alloc: Global, part: RawView<'_>, deserializer: &mut D) -> Result<Vec<Expr>, Error>
     requires { IsPartOf ⟦<ArchivedVec<ArchivedExpr> as ArchivePointee>⟧ part }
     ensures read { IfOk result (Read ⟦<ArchivedVec<ArchivedExpr> as ArchivePointee>⟧ part D.Entries
         deserializer ⟦<Vec<Expr> as Archive>⟧) }
@@ -638,11 +663,7 @@ fn read_each_expr<D: Entries>(
 
 // Reads `Num` back.
 #[inline(always)]
-fn read_expr_num<D: Entries>(
-    alloc: Global,
-    part: RawView<'_>,
-    deserializer: &mut D,
-) -> Result<Expr, Error>
+fn read_expr_num<D: Entries>(alloc: Global, part: RawView<'_>, deserializer: &mut D) -> Result<Expr, Error>
     requires viewed { IsPartOf ⟦<ArchivedExpr as ArchivePointee>⟧ part }
     requires tag { part_tag part ≡ 0 }
     ensures read { IfOk result (Read ⟦<ArchivedExpr as ArchivePointee>⟧ part D.Entries deserializer
@@ -661,11 +682,7 @@ fn read_expr_num<D: Entries>(
 // Reads `Add` back.
 #[cycle(read_expr)]
 #[inline(never)]
-fn read_expr_add<D: Entries>(
-    alloc: Global,
-    part: RawView<'_>,
-    deserializer: &mut D,
-) -> Result<Expr, Error>
+fn read_expr_add<D: Entries>(alloc: Global, part: RawView<'_>, deserializer: &mut D) -> Result<Expr, Error>
     requires viewed { IsPartOf ⟦<ArchivedExpr as ArchivePointee>⟧ part }
     requires tag { part_tag part ≡ 1 }
     ensures read { IfOk result (Read ⟦<ArchivedExpr as ArchivePointee>⟧ part D.Entries deserializer
@@ -673,12 +690,12 @@ fn read_expr_add<D: Entries>(
     ensures refused { IfErr result (RefusesPart ⟦<ArchivedExpr as ArchivePointee>⟧ part D.Entries
         deserializer) }
 {
-    let p0 = part_of_variant::<ArchivedExpr, ArchivedBox<ArchivedExpr>>(part, 1, 0, 4);
+    let p0 = part_0_of_expr_add(part);
     let a0 = match read_box_expr(alloc, p0, deserializer) {
         Ok(a0) => a0,
         Err(error) => return Err(error),
     };
-    let p1 = part_of_variant::<ArchivedExpr, ArchivedBox<ArchivedExpr>>(part, 1, 1, 8);
+    let p1 = part_1_of_expr_add(part);
     let a1 = match read_box_expr(alloc, p1, deserializer) {
         Ok(a1) => a1,
         Err(error) => return Err(error),
@@ -689,11 +706,7 @@ fn read_expr_add<D: Entries>(
 // Reads `Call` back.
 #[cycle(read_expr)]
 #[inline(never)]
-fn read_expr_call<D: Entries>(
-    alloc: Global,
-    part: RawView<'_>,
-    deserializer: &mut D,
-) -> Result<Expr, Error>
+fn read_expr_call<D: Entries>(alloc: Global, part: RawView<'_>, deserializer: &mut D) -> Result<Expr, Error>
     requires viewed { IsPartOf ⟦<ArchivedExpr as ArchivePointee>⟧ part }
     requires tag { part_tag part ≡ 2 }
     ensures read { IfOk result (Read ⟦<ArchivedExpr as ArchivePointee>⟧ part D.Entries deserializer
@@ -701,12 +714,12 @@ fn read_expr_call<D: Entries>(
     ensures refused { IfErr result (RefusesPart ⟦<ArchivedExpr as ArchivePointee>⟧ part D.Entries
         deserializer) }
 {
-    let p0 = part_of_variant::<ArchivedExpr, ArchivedString>(part, 2, 0, 4);
+    let p0 = part_0_of_expr_call(part);
     let a0 = match read_part::<ArchivedString, String, D>(alloc, p0, deserializer) {
         Ok(a0) => a0,
         Err(error) => return Err(error),
     };
-    let p1 = part_of_variant::<ArchivedExpr, ArchivedVec<ArchivedExpr>>(part, 2, 1, 12);
+    let p1 = part_1_of_expr_call(part);
     let a1 = match read_vec_expr(alloc, p1, deserializer) {
         Ok(a1) => a1,
         Err(error) => return Err(error),
@@ -717,11 +730,7 @@ fn read_expr_call<D: Entries>(
 // Reads a value back.
 #[cycle(read_expr)]
 #[inline(always)]
-fn read_expr<D: Entries>(
-    alloc: Global,
-    part: RawView<'_>,
-    deserializer: &mut D,
-) -> Result<Expr, Error>
+fn read_expr<D: Entries>(alloc: Global, part: RawView<'_>, deserializer: &mut D) -> Result<Expr, Error>
     requires { IsPartOf ⟦<ArchivedExpr as ArchivePointee>⟧ part }
     ensures read { IfOk result (Read ⟦<ArchivedExpr as ArchivePointee>⟧ part D.Entries deserializer
         ⟦<Expr as Archive>⟧) }

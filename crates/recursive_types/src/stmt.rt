@@ -321,10 +321,7 @@ impl Archive for Stmt {
 
 // Writes what each of the values owns, in order.
 #[cycle(serialize_stmt)]
-fn serialize_each_stmt<S: Writer + Keys + ResolverAlloc>(
-    values: &[Stmt],
-    serializer: &mut S,
-) -> Result<Vec<<Stmt as Archive>::Resolver, S::Alloc>, Error>
+fn serialize_each_stmt<S: Writer + Keys + ResolverAlloc>(values: &[Stmt], serializer: &mut S) -> Result<Vec<<Stmt as Archive>::Resolver, S::Alloc>, Error>
     ensures serialized { IfOk result (λ rs. SerializedRun stmt_definitions stmt_shape
         (length values.now) (each_keys ⟦<Stmt as Archive>⟧.keys values.now)
         (each_meaning ⟦<Stmt as Archive>⟧.meaning values.now)
@@ -352,10 +349,7 @@ fn serialize_each_stmt<S: Writer + Keys + ResolverAlloc>(
 
 // Writes what a vector owns.
 #[cycle(serialize_stmt)]
-fn serialize_vec_stmt<S: Writer + Keys + ResolverAlloc>(
-    value: &Vec<Stmt>,
-    serializer: &mut S,
-) -> Result<VecResolver, Error>
+fn serialize_vec_stmt<S: Writer + Keys + ResolverAlloc>(value: &Vec<Stmt>, serializer: &mut S) -> Result<VecResolver, Error>
     ensures serialized { IfOk result (λ r. Serialized stmt_definitions (vec stmt_shape)
         (⟦<Vec<Stmt> as Archive>⟧.keys value.now) (⟦<Vec<Stmt> as Archive>⟧.meaning value.now)
         (⟦<Vec<Stmt> as Archive>⟧.flat value.now r) (S.state serializer.old)
@@ -447,10 +441,7 @@ fn serialize_stmt_block<S: Writer + Keys + ResolverAlloc>(
 
 // Writes what a value owns.
 #[cycle(serialize_stmt)]
-fn serialize_whole_stmt<S: Writer + Keys + ResolverAlloc>(
-    value: &Stmt,
-    serializer: &mut S,
-) -> Result<StmtResolver, Error>
+fn serialize_whole_stmt<S: Writer + Keys + ResolverAlloc>(value: &Stmt, serializer: &mut S) -> Result<StmtResolver, Error>
     ensures serialized { IfOk result (λ r. Serialized stmt_definitions stmt_shape
         (⟦<Stmt as Archive>⟧.keys value.now) (⟦<Stmt as Archive>⟧.meaning value.now)
         (⟦<Stmt as Archive>⟧.flat value.now r) (S.state serializer.old) (S.state serializer.new)) }
@@ -475,10 +466,7 @@ fn serialize_whole_stmt<S: Writer + Keys + ResolverAlloc>(
 // The same by a call, whose result has its room only while it lasts.
 #[cycle(serialize_stmt)]
 #[inline(always)]
-fn serialize_stmt<S: Writer + Keys + ResolverAlloc>(
-    value: &Stmt,
-    serializer: &mut S,
-) -> Result<StmtResolver, Error>
+fn serialize_stmt<S: Writer + Keys + ResolverAlloc>(value: &Stmt, serializer: &mut S) -> Result<StmtResolver, Error>
     ensures serialized { IfOk result (λ r. Serialized stmt_definitions stmt_shape
         (⟦<Stmt as Archive>⟧.keys value.now) (⟦<Stmt as Archive>⟧.meaning value.now)
         (⟦<Stmt as Archive>⟧.flat value.now r) (S.state serializer.old) (S.state serializer.new)) }
@@ -530,14 +518,23 @@ impl<S: Writer + Keys + ResolverAlloc> SerializeUnsized<S> for Stmt {
     }
 }
 
+// The part of a value that is `Block` with the index 0.
+#[inline(always)]
+fn part_0_of_stmt_block<'a>(part: RawView<'a>) -> RawView<'a>
+    requires viewed { IsPartOf ⟦<ArchivedStmt as ArchivePointee>⟧ part }
+    requires tag { part_tag part ≡ 1 }
+    ensures buffer { result.bytes.now ≡ part.entry.bytes.now }
+    ensures position { result.pos ≡ part.entry.pos + 4 }
+    ensures length { result.len ≡ 0 }
+    ensures viewed { IsPartOf ⟦<ArchivedVec<ArchivedStmt> as ArchivePointee>⟧ result }
+{
+    part_of_variant::<ArchivedStmt, ArchivedVec<ArchivedStmt>>(part, 1, 0, 4)
+}
+
 // Reads a vector back. One with no elements takes no call, whose result would go through memory.
 #[cycle(read_stmt)]
 #[inline(always)]
-fn read_vec_stmt<D: Entries>(
-    alloc: Global,
-    part: RawView<'_>,
-    deserializer: &mut D,
-) -> Result<Vec<Stmt>, Error>
+fn read_vec_stmt<D: Entries>(alloc: Global, part: RawView<'_>, deserializer: &mut D) -> Result<Vec<Stmt>, Error>
     requires { IsPartOf ⟦<ArchivedVec<ArchivedStmt> as ArchivePointee>⟧ part }
     ensures read { IfOk result (Read ⟦<ArchivedVec<ArchivedStmt> as ArchivePointee>⟧ part D.Entries
         deserializer ⟦<Vec<Stmt> as Archive>⟧) }
@@ -554,11 +551,7 @@ fn read_vec_stmt<D: Entries>(
 // Reads the elements of a vector back.
 #[cycle(read_stmt)]
 #[inline(always)]
-fn read_each_stmt<D: Entries>(
-    alloc: Global,
-    part: RawView<'_>,
-    deserializer: &mut D,
-) -> Result<Vec<Stmt>, Error>
+fn read_each_stmt<D: Entries>(alloc: Global, part: RawView<'_>, deserializer: &mut D) -> Result<Vec<Stmt>, Error>
     requires { IsPartOf ⟦<ArchivedVec<ArchivedStmt> as ArchivePointee>⟧ part }
     ensures read { IfOk result (Read ⟦<ArchivedVec<ArchivedStmt> as ArchivePointee>⟧ part D.Entries
         deserializer ⟦<Vec<Stmt> as Archive>⟧) }
@@ -580,11 +573,7 @@ fn read_each_stmt<D: Entries>(
 
 // Reads `Set` back.
 #[inline(always)]
-fn read_stmt_set<D: Entries>(
-    alloc: Global,
-    part: RawView<'_>,
-    deserializer: &mut D,
-) -> Result<Stmt, Error>
+fn read_stmt_set<D: Entries>(alloc: Global, part: RawView<'_>, deserializer: &mut D) -> Result<Stmt, Error>
     requires viewed { IsPartOf ⟦<ArchivedStmt as ArchivePointee>⟧ part }
     requires tag { part_tag part ≡ 0 }
     ensures read { IfOk result (Read ⟦<ArchivedStmt as ArchivePointee>⟧ part D.Entries deserializer
@@ -612,11 +601,7 @@ fn read_stmt_set<D: Entries>(
 // Reads `Block` back.
 #[cycle(read_stmt)]
 #[inline(never)]
-fn read_stmt_block<D: Entries>(
-    alloc: Global,
-    part: RawView<'_>,
-    deserializer: &mut D,
-) -> Result<Stmt, Error>
+fn read_stmt_block<D: Entries>(alloc: Global, part: RawView<'_>, deserializer: &mut D) -> Result<Stmt, Error>
     requires viewed { IsPartOf ⟦<ArchivedStmt as ArchivePointee>⟧ part }
     requires tag { part_tag part ≡ 1 }
     ensures read { IfOk result (Read ⟦<ArchivedStmt as ArchivePointee>⟧ part D.Entries deserializer
@@ -624,7 +609,7 @@ fn read_stmt_block<D: Entries>(
     ensures refused { IfErr result (RefusesPart ⟦<ArchivedStmt as ArchivePointee>⟧ part D.Entries
         deserializer) }
 {
-    let p0 = part_of_variant::<ArchivedStmt, ArchivedVec<ArchivedStmt>>(part, 1, 0, 4);
+    let p0 = part_0_of_stmt_block(part);
     let a0 = match read_vec_stmt(alloc, p0, deserializer) {
         Ok(a0) => a0,
         Err(error) => return Err(error),
@@ -635,11 +620,7 @@ fn read_stmt_block<D: Entries>(
 // Reads a value back.
 #[cycle(read_stmt)]
 #[inline(always)]
-fn read_stmt<D: Entries>(
-    alloc: Global,
-    part: RawView<'_>,
-    deserializer: &mut D,
-) -> Result<Stmt, Error>
+fn read_stmt<D: Entries>(alloc: Global, part: RawView<'_>, deserializer: &mut D) -> Result<Stmt, Error>
     requires { IsPartOf ⟦<ArchivedStmt as ArchivePointee>⟧ part }
     ensures read { IfOk result (Read ⟦<ArchivedStmt as ArchivePointee>⟧ part D.Entries deserializer
         ⟦<Stmt as Archive>⟧) }
@@ -700,9 +681,7 @@ impl<'a> StmtView<'a> for Ref<'a, ArchivedStmt> {
         match tag_of_view(self) {
             0 => {
                 let a0 = view_of_payload::<ArchivedStmt, ArchivedExpr>(self, 0, 0, 8);
-                let a1 = view_of_payload::<ArchivedStmt, ArchivedOption<ArchivedExpr>>(
-                    self, 0, 1, 32,
-                );
+                let a1 = view_of_payload::<ArchivedStmt, ArchivedOption<ArchivedExpr>>(self, 0, 1, 32);
                 ViewOfStmt::Set(a0, a1)
             }
             _ => {

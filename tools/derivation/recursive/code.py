@@ -15,6 +15,7 @@ from . import by_number, lent, weak
 from . import arrays
 from . import chains
 from . import expressions
+from . import places
 from . import slices
 from . import tuples
 from ..model import Type
@@ -57,7 +58,7 @@ def text(it):
         chains.bring(it)
         pieces += [chains.check(it), chains.drop(it), chains.writing(it), writers.region(it), chains.reading(it), readers.deserialize(it)]
     else:
-        pieces += [writers.writing(it), writers.serialize(it), writers.region(it), readers.reading(it), readers.deserialize(it)]
+        pieces += [writers.writing(it), writers.serialize(it), writers.region(it), places.text(it), readers.reading(it), readers.deserialize(it)]
     pieces += [accessors(it, records.views, variant_views.views), accessors(it, records.seals, variant_views.seals)]
     return "\n".join(piece for piece in pieces if piece)
 

@@ -1,6 +1,6 @@
 """Proofs that recursive types are read back as they say."""
 
-from . import map_proofs, slices, weak
+from . import map_proofs, places, slices, weak
 from ..arrays import is_made
 from ..common import numbered
 from .arrays import is_array
@@ -236,8 +236,8 @@ def made_of(it, types, leads_back):
 
 def parts_read(it, case, answers, function):
     """The answers on parts that are read one after another."""
-    where = "part_of_record" if case.is_record else "part_of_variant"
-    told = ["rw (" + ", ".join(f"c.{where}-p{i}.ensures.{clause}" for clause in ("buffer", "position", "length")) + ") at " for i in range(case.count)]
+    where = [places.name(case, i) if not case.is_record and places.goes(it, case) else f"part_of_{'record' if case.is_record else 'variant'}" for i in range(case.count)]
+    told = ["rw (" + ", ".join(f"c.{found}-p{i}.ensures.{clause}" for clause in ("buffer", "position", "length")) + ") at " for i, found in enumerate(where)]
     reads = Reads(it, case.names, case.types)
     values = list(reads.values)
     for i in proofs.wholes_of(case):

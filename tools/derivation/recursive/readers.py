@@ -4,7 +4,7 @@ from . import weak
 from . import arrays
 from . import frames
 from . import maps
-from . import slices
+from . import places, slices
 from .reads import is_made, skips_none, word_of
 from .term_words import is_map
 from ..layout import Generic, Group, call, literal, statement
@@ -203,6 +203,8 @@ def parts_read(it, case):
         X = code.inside(it, type)
         if case.is_record:
             where = Generic("part_of_record", [it.row_name(case.tuple) if case.is_row else it.archived, X], ["part", str(i), str(offset)])
+        elif places.goes(it, case):
+            where = call(places.name(case, i), ["part"])
         else:
             where = Generic("part_of_variant", [it.archived, X], ["part", str(case.tag), str(i), str(offset)])
         lines += statement(4, f"let p{i} = ", where, ";")

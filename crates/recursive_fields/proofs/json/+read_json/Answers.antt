@@ -43,16 +43,16 @@ pub read_each_member_type-returns-clause-read : goal.read_each_member_type-retur
 read_each_member_type-returns-clause-read g t c = (let kept = c.loop-index.invariant in let b = c.before_vec-list.result.bytes.now in let q = c.before_vec-list.result.pos in let n = c.before_vec-list.result.len in let whole : length c.loop-index.items.items ≡ n = omega (arith, kept.0, c.loop-index-test.false, c.loop-index.auto.index-end, c.len-index-end.ensures) in let r = elements_all json_definitions member_type_shape member_type_layout member_type_has_layout b q (run member_type_shape) n n (all_have json_definitions member_type_shape member_type_layout member_type_has_layout b q n (run member_type_shape) n (inl (refl, refl))) member_type_meaning member_type_keys (g.D.Entries.entry_of c.args.deserializer.now) (g.D.Entries.entry_of c.loop-index.deserializer) c.loop-index.items.items whole (kept.3) in vec_read json_definitions c.args.part.bytes.now c.args.part.pos c.args.part.len member_type_shape _ _ _ _ c.requires (rw (c.before_vec-list.ensures.buffer, c.before_vec-list.ensures.position, c.before_vec-list.ensures.length, c.at-view.ensures.buffer, c.at-view.ensures.position) at r))
 
 pub read_json_list-returns-in-Err-clause-refused : goal.read_json_list-returns-in-Err-clause-refused
-read_json_list-returns-in-Err-clause-refused g t c = (variant_refuses json_definitions json_shape json_name json_variant_definitions json_variants json_has_variants 3 json_list_parts refl json_list_definitions refl _ _ _ c.requires.tag _ _ (first_refuses json_definitions no_definition (vec json_shape) (record { size = 8; align = 4 }) (record { solved = λ s k. refl }) no_part _ _ 1 _ _ (rw (c.part_of_variant-p0.ensures.buffer, c.part_of_variant-p0.ensures.position, c.part_of_variant-p0.ensures.length) at c.in-Err.ensures.refused)))
+read_json_list-returns-in-Err-clause-refused g t c = (variant_refuses json_definitions json_shape json_name json_variant_definitions json_variants json_has_variants 3 json_list_parts refl json_list_definitions refl _ _ _ c.requires.tag _ _ (first_refuses json_definitions no_definition (vec json_shape) (record { size = 8; align = 4 }) (record { solved = λ s k. refl }) no_part _ _ 1 _ _ (rw (c.part_0_of_json_list-p0.ensures.buffer, c.part_0_of_json_list-p0.ensures.position, c.part_0_of_json_list-p0.ensures.length) at c.in-Err.ensures.refused)))
 
 pub read_json_list-returns-clause-read : goal.read_json_list-returns-clause-read
-read_json_list-returns-clause-read g t c = read_as (json_list_has_keys c.in-Ok.a0) (json_list_means c.in-Ok.a0) (variant_read_back json_definitions json_shape json_name json_variant_definitions json_variants json_has_variants 3 json_list_parts refl json_list_definitions refl _ _ _ c.requires.tag _ _ _ _ (part_read_back {L = (record { size = 8; align = 4 })} {ks = (each_keys json_keys c.in-Ok.a0.items)} {ls = []} (record { solved = λ s k. refl }) (rw (c.part_of_variant-p0.ensures.buffer, c.part_of_variant-p0.ensures.position, c.part_of_variant-p0.ensures.length) at c.in-Ok.ensures.read) no_part_read_back))
+read_json_list-returns-clause-read g t c = read_as (json_list_has_keys c.in-Ok.a0) (json_list_means c.in-Ok.a0) (variant_read_back json_definitions json_shape json_name json_variant_definitions json_variants json_has_variants 3 json_list_parts refl json_list_definitions refl _ _ _ c.requires.tag _ _ _ _ (part_read_back {L = (record { size = 8; align = 4 })} {ks = (each_keys json_keys c.in-Ok.a0.items)} {ls = []} (record { solved = λ s k. refl }) (rw (c.part_0_of_json_list-p0.ensures.buffer, c.part_0_of_json_list-p0.ensures.position, c.part_0_of_json_list-p0.ensures.length) at c.in-Ok.ensures.read) no_part_read_back))
 
 pub read_json_object-returns-in-Err-clause-refused : goal.read_json_object-returns-in-Err-clause-refused
-read_json_object-returns-in-Err-clause-refused g t c = (variant_refuses json_definitions json_shape json_name json_variant_definitions json_variants json_has_variants 4 json_object_parts refl json_object_definitions refl _ _ _ c.requires.tag _ _ (first_refuses json_definitions no_definition (vec member_type_shape) (record { size = 8; align = 4 }) (record { solved = λ s k. refl }) no_part _ _ 1 _ _ (rw (c.part_of_variant-p0.ensures.buffer, c.part_of_variant-p0.ensures.position, c.part_of_variant-p0.ensures.length) at c.in-Err.ensures.refused)))
+read_json_object-returns-in-Err-clause-refused g t c = (variant_refuses json_definitions json_shape json_name json_variant_definitions json_variants json_has_variants 4 json_object_parts refl json_object_definitions refl _ _ _ c.requires.tag _ _ (first_refuses json_definitions no_definition (vec member_type_shape) (record { size = 8; align = 4 }) (record { solved = λ s k. refl }) no_part _ _ 1 _ _ (rw (c.part_0_of_json_object-p0.ensures.buffer, c.part_0_of_json_object-p0.ensures.position, c.part_0_of_json_object-p0.ensures.length) at c.in-Err.ensures.refused)))
 
 pub read_json_object-returns-clause-read : goal.read_json_object-returns-clause-read
-read_json_object-returns-clause-read g t c = read_as (json_object_has_keys c.in-Ok.a0) (json_object_means c.in-Ok.a0) (variant_read_back json_definitions json_shape json_name json_variant_definitions json_variants json_has_variants 4 json_object_parts refl json_object_definitions refl _ _ _ c.requires.tag _ _ _ _ (part_read_back {L = (record { size = 8; align = 4 })} {ks = (each_keys member_type_keys c.in-Ok.a0.items)} {ls = []} (record { solved = λ s k. refl }) (rw (c.part_of_variant-p0.ensures.buffer, c.part_of_variant-p0.ensures.position, c.part_of_variant-p0.ensures.length) at c.in-Ok.ensures.read) no_part_read_back))
+read_json_object-returns-clause-read g t c = read_as (json_object_has_keys c.in-Ok.a0) (json_object_means c.in-Ok.a0) (variant_read_back json_definitions json_shape json_name json_variant_definitions json_variants json_has_variants 4 json_object_parts refl json_object_definitions refl _ _ _ c.requires.tag _ _ _ _ (part_read_back {L = (record { size = 8; align = 4 })} {ks = (each_keys member_type_keys c.in-Ok.a0.items)} {ls = []} (record { solved = λ s k. refl }) (rw (c.part_0_of_json_object-p0.ensures.buffer, c.part_0_of_json_object-p0.ensures.position, c.part_0_of_json_object-p0.ensures.length) at c.in-Ok.ensures.read) no_part_read_back))
 
 pub read_member_type-returns-in-Err-clause-refused : goal.read_member_type-returns-in-Err-clause-refused
 read_member_type-returns-in-Err-clause-refused g t c = (record_refuses member_type_definitions member_type_shape member_type_part_definitions member_type_parts member_type_has_parts _ _ _ _ _ (first_refuses no_definition (both member_type_definitions no_definition) str (record { size = 8; align = 4 }) (record { solved = λ s k. refl }) (part json_shape no_part) _ _ 0 _ _ (rw (c.part_of_record-p0.ensures.buffer, c.part_of_record-p0.ensures.position, c.part_of_record-p0.ensures.length) at c.in-Err.ensures.refused)))

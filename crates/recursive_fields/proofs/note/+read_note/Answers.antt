@@ -39,7 +39,7 @@ pub read_vec_tuple3_string_note_option_string-returns-clause-read : goal.read_ve
 read_vec_tuple3_string_note_option_string-returns-clause-read g t c = (let kept = c.loop-index.invariant in let b = c.before_vec-list.result.bytes.now in let q = c.before_vec-list.result.pos in let n = c.before_vec-list.result.len in let whole : length c.loop-index.items.items ≡ n = omega (arith, kept.0, c.loop-index-test.false, c.loop-index.auto.index-end, c.len-index-end.ensures) in let r = elements_all tuple3_string_note_option_string_definitions tuple3_string_note_option_string_shape tuple3_string_note_option_string_layout tuple3_string_note_option_string_has_layout b q (run tuple3_string_note_option_string_shape) n n (all_have tuple3_string_note_option_string_definitions tuple3_string_note_option_string_shape tuple3_string_note_option_string_layout tuple3_string_note_option_string_has_layout b q n (run tuple3_string_note_option_string_shape) n (inl (refl, refl))) tuple3_string_note_option_string_meaning tuple3_string_note_option_string_keys (g.D.Entries.entry_of c.args.deserializer.now) (g.D.Entries.entry_of c.loop-index.deserializer) c.loop-index.items.items whole (kept.3) in vec_read tuple3_string_note_option_string_definitions c.args.part.bytes.now c.args.part.pos c.args.part.len tuple3_string_note_option_string_shape _ _ _ _ c.requires (rw (c.before_vec-list.ensures.buffer, c.before_vec-list.ensures.position, c.before_vec-list.ensures.length, c.at-view.ensures.buffer, c.at-view.ensures.position) at r))
 
 pub read_note_table-returns-in-Err-clause-refused : goal.read_note_table-returns-in-Err-clause-refused
-read_note_table-returns-in-Err-clause-refused g t c = (variant_refuses note_definitions note_shape note_name note_variant_definitions note_variants note_has_variants 2 note_table_parts refl note_table_definitions refl _ _ _ c.requires.tag _ _ (first_refuses tuple3_string_note_option_string_definitions no_definition (vec tuple3_string_note_option_string_shape) (record { size = 8; align = 4 }) (record { solved = λ s k. refl }) no_part _ _ 1 _ _ (rw (c.part_of_variant-p0.ensures.buffer, c.part_of_variant-p0.ensures.position, c.part_of_variant-p0.ensures.length) at c.in-Err.ensures.refused)))
+read_note_table-returns-in-Err-clause-refused g t c = (variant_refuses note_definitions note_shape note_name note_variant_definitions note_variants note_has_variants 2 note_table_parts refl note_table_definitions refl _ _ _ c.requires.tag _ _ (first_refuses tuple3_string_note_option_string_definitions no_definition (vec tuple3_string_note_option_string_shape) (record { size = 8; align = 4 }) (record { solved = λ s k. refl }) no_part _ _ 1 _ _ (rw (c.part_0_of_note_table-p0.ensures.buffer, c.part_0_of_note_table-p0.ensures.position, c.part_0_of_note_table-p0.ensures.length) at c.in-Err.ensures.refused)))
 
 pub read_note_table-returns-clause-read : goal.read_note_table-returns-clause-read
-read_note_table-returns-clause-read g t c = read_as (note_table_has_keys c.in-Ok.a0) (note_table_means c.in-Ok.a0) (variant_read_back note_definitions note_shape note_name note_variant_definitions note_variants note_has_variants 2 note_table_parts refl note_table_definitions refl _ _ _ c.requires.tag _ _ _ _ (part_read_back {L = (record { size = 8; align = 4 })} {ks = (each_keys (λ y. ([] ++ ((note_keys y.1) ++ ((option_keys (λ y. []) y.2) ++ [])))) c.in-Ok.a0.items)} {ls = []} (record { solved = λ s k. refl }) (rw (c.part_of_variant-p0.ensures.buffer, c.part_of_variant-p0.ensures.position, c.part_of_variant-p0.ensures.length) at c.in-Ok.ensures.read) no_part_read_back))
+read_note_table-returns-clause-read g t c = read_as (note_table_has_keys c.in-Ok.a0) (note_table_means c.in-Ok.a0) (variant_read_back note_definitions note_shape note_name note_variant_definitions note_variants note_has_variants 2 note_table_parts refl note_table_definitions refl _ _ _ c.requires.tag _ _ _ _ (part_read_back {L = (record { size = 8; align = 4 })} {ks = (each_keys (λ y. ([] ++ ((note_keys y.1) ++ ((option_keys (λ y. []) y.2) ++ [])))) c.in-Ok.a0.items)} {ls = []} (record { solved = λ s k. refl }) (rw (c.part_0_of_note_table-p0.ensures.buffer, c.part_0_of_note_table-p0.ensures.position, c.part_0_of_note_table-p0.ensures.length) at c.in-Ok.ensures.read) no_part_read_back))

@@ -62,19 +62,19 @@ pub read_weak_shared_road-returns-in-Err-finish_target-clause-refused : goal.rea
 read_weak_shared_road-returns-in-Err-finish_target-clause-refused g t c = (let some = c.in-Some.ensures.some in let far = rw (c.at-view.ensures.buffer, c.at-view.ensures.position) at c.in-Some.ensures.offset in inl (c.in-Err-finish_target.ensures.refused _ _ c.part-behind.result.bytes.now c.part-behind.result.len (rw c.in-None.is at c.in-Ok.ensures.begun) c.in-Ok-read_road.ensures.read))
 
 pub read_road_way-returns-in-Err-clause-refused : goal.read_road_way-returns-in-Err-clause-refused
-read_road_way-returns-in-Err-clause-refused g t c = (variant_refuses road_definitions road_shape road_name road_variant_definitions road_variants road_has_variants 0 road_way_parts refl road_way_definitions refl _ _ _ c.requires.tag _ _ (first_refuses no_definition (both road_definitions no_definition) (leaf (number_kind unsigned w8)) (record { size = 1; align = 1 }) (record { solved = λ s k. refl }) (part (option_shape (shared rc_flavor (one road_shape))) no_part) _ _ 1 _ _ (rw (c.part_of_variant-p0.ensures.buffer, c.part_of_variant-p0.ensures.position, c.part_of_variant-p0.ensures.length) at c.in-Err.ensures.refused)))
+read_road_way-returns-in-Err-clause-refused g t c = (variant_refuses road_definitions road_shape road_name road_variant_definitions road_variants road_has_variants 0 road_way_parts refl road_way_definitions refl _ _ _ c.requires.tag _ _ (first_refuses no_definition (both road_definitions no_definition) (leaf (number_kind unsigned w8)) (record { size = 1; align = 1 }) (record { solved = λ s k. refl }) (part (option_shape (shared rc_flavor (one road_shape))) no_part) _ _ 1 _ _ (rw (c.part_0_of_road_way-p0.ensures.buffer, c.part_0_of_road_way-p0.ensures.position, c.part_0_of_road_way-p0.ensures.length) at c.in-Err.ensures.refused)))
 
 pub read_road_way-returns-in-Err-read_option_shared_road-clause-refused : goal.read_road_way-returns-in-Err-read_option_shared_road-clause-refused
-read_road_way-returns-in-Err-read_option_shared_road-clause-refused g t c = (variant_refuses road_definitions road_shape road_name road_variant_definitions road_variants road_has_variants 0 road_way_parts refl road_way_definitions refl _ _ _ c.requires.tag _ _ (later_refuses no_definition (both road_definitions no_definition) (leaf (number_kind unsigned w8)) (record { size = 1; align = 1 }) (record { solved = λ s k. refl }) (part (option_shape (shared rc_flavor (one road_shape))) no_part) _ _ 1 _ _ _ c.in-Ok.ensures.read.kept (first_refuses road_definitions no_definition (option_shape (shared rc_flavor (one road_shape))) (record { size = 8; align = 4 }) (record { solved = λ s k. refl }) no_part _ _ 2 _ _ (rw (c.part_of_variant-p1.ensures.buffer, c.part_of_variant-p1.ensures.position, c.part_of_variant-p1.ensures.length) at c.in-Err-read_option_shared_road.ensures.refused))))
+read_road_way-returns-in-Err-read_option_shared_road-clause-refused g t c = (variant_refuses road_definitions road_shape road_name road_variant_definitions road_variants road_has_variants 0 road_way_parts refl road_way_definitions refl _ _ _ c.requires.tag _ _ (later_refuses no_definition (both road_definitions no_definition) (leaf (number_kind unsigned w8)) (record { size = 1; align = 1 }) (record { solved = λ s k. refl }) (part (option_shape (shared rc_flavor (one road_shape))) no_part) _ _ 1 _ _ _ c.in-Ok.ensures.read.kept (first_refuses road_definitions no_definition (option_shape (shared rc_flavor (one road_shape))) (record { size = 8; align = 4 }) (record { solved = λ s k. refl }) no_part _ _ 2 _ _ (rw (c.part_1_of_road_way-p1.ensures.buffer, c.part_1_of_road_way-p1.ensures.position, c.part_1_of_road_way-p1.ensures.length) at c.in-Err-read_option_shared_road.ensures.refused))))
 
 pub read_road_way-returns-clause-read : goal.read_road_way-returns-clause-read
-read_road_way-returns-clause-read g t c = read_as (road_way_has_keys c.in-Ok.a0 c.in-Ok-read_option_shared_road.a1) (road_way_means c.in-Ok.a0 c.in-Ok-read_option_shared_road.a1) (variant_read_back road_definitions road_shape road_name road_variant_definitions road_variants road_has_variants 0 road_way_parts refl road_way_definitions refl _ _ _ c.requires.tag _ _ _ _ (part_read_back {L = (record { size = 1; align = 1 })} {ks = []} {ls = ((option_keys (λ y. (rc_keys y.key (one road_shape) 0 (road_meaning y.value.value) (road_keys y.value.value))) c.in-Ok-read_option_shared_road.a1) ++ [])} (record { solved = λ s k. refl }) (rw (c.part_of_variant-p0.ensures.buffer, c.part_of_variant-p0.ensures.position, c.part_of_variant-p0.ensures.length) at c.in-Ok.ensures.read) (part_read_back {L = (record { size = 8; align = 4 })} {ks = (option_keys (λ y. (rc_keys y.key (one road_shape) 0 (road_meaning y.value.value) (road_keys y.value.value))) c.in-Ok-read_option_shared_road.a1)} {ls = []} (record { solved = λ s k. refl }) (rw (c.part_of_variant-p1.ensures.buffer, c.part_of_variant-p1.ensures.position, c.part_of_variant-p1.ensures.length) at c.in-Ok-read_option_shared_road.ensures.read) no_part_read_back)))
+read_road_way-returns-clause-read g t c = read_as (road_way_has_keys c.in-Ok.a0 c.in-Ok-read_option_shared_road.a1) (road_way_means c.in-Ok.a0 c.in-Ok-read_option_shared_road.a1) (variant_read_back road_definitions road_shape road_name road_variant_definitions road_variants road_has_variants 0 road_way_parts refl road_way_definitions refl _ _ _ c.requires.tag _ _ _ _ (part_read_back {L = (record { size = 1; align = 1 })} {ks = []} {ls = ((option_keys (λ y. (rc_keys y.key (one road_shape) 0 (road_meaning y.value.value) (road_keys y.value.value))) c.in-Ok-read_option_shared_road.a1) ++ [])} (record { solved = λ s k. refl }) (rw (c.part_0_of_road_way-p0.ensures.buffer, c.part_0_of_road_way-p0.ensures.position, c.part_0_of_road_way-p0.ensures.length) at c.in-Ok.ensures.read) (part_read_back {L = (record { size = 8; align = 4 })} {ks = (option_keys (λ y. (rc_keys y.key (one road_shape) 0 (road_meaning y.value.value) (road_keys y.value.value))) c.in-Ok-read_option_shared_road.a1)} {ls = []} (record { solved = λ s k. refl }) (rw (c.part_1_of_road_way-p1.ensures.buffer, c.part_1_of_road_way-p1.ensures.position, c.part_1_of_road_way-p1.ensures.length) at c.in-Ok-read_option_shared_road.ensures.read) no_part_read_back)))
 
 pub read_road_detour-returns-in-Err-clause-refused : goal.read_road_detour-returns-in-Err-clause-refused
-read_road_detour-returns-in-Err-clause-refused g t c = (variant_refuses road_definitions road_shape road_name road_variant_definitions road_variants road_has_variants 1 road_detour_parts refl road_detour_definitions refl _ _ _ c.requires.tag _ _ (first_refuses road_definitions (both road_definitions no_definition) (shared rc_flavor (one road_shape)) (record { size = 4; align = 4 }) (record { solved = λ s k. refl }) (part (weak rc_flavor (one road_shape)) no_part) _ _ 1 _ _ (rw (c.part_of_variant-p0.ensures.buffer, c.part_of_variant-p0.ensures.position, c.part_of_variant-p0.ensures.length) at c.in-Err.ensures.refused)))
+read_road_detour-returns-in-Err-clause-refused g t c = (variant_refuses road_definitions road_shape road_name road_variant_definitions road_variants road_has_variants 1 road_detour_parts refl road_detour_definitions refl _ _ _ c.requires.tag _ _ (first_refuses road_definitions (both road_definitions no_definition) (shared rc_flavor (one road_shape)) (record { size = 4; align = 4 }) (record { solved = λ s k. refl }) (part (weak rc_flavor (one road_shape)) no_part) _ _ 1 _ _ (rw (c.part_0_of_road_detour-p0.ensures.buffer, c.part_0_of_road_detour-p0.ensures.position, c.part_0_of_road_detour-p0.ensures.length) at c.in-Err.ensures.refused)))
 
 pub read_road_detour-returns-in-Err-read_weak_shared_road-clause-refused : goal.read_road_detour-returns-in-Err-read_weak_shared_road-clause-refused
-read_road_detour-returns-in-Err-read_weak_shared_road-clause-refused g t c = (variant_refuses road_definitions road_shape road_name road_variant_definitions road_variants road_has_variants 1 road_detour_parts refl road_detour_definitions refl _ _ _ c.requires.tag _ _ (later_refuses road_definitions (both road_definitions no_definition) (shared rc_flavor (one road_shape)) (record { size = 4; align = 4 }) (record { solved = λ s k. refl }) (part (weak rc_flavor (one road_shape)) no_part) _ _ 1 _ _ _ c.in-Ok.ensures.read.kept (first_refuses road_definitions no_definition (weak rc_flavor (one road_shape)) (record { size = 4; align = 4 }) (record { solved = λ s k. refl }) no_part _ _ 8 _ _ (rw (c.part_of_variant-p1.ensures.buffer, c.part_of_variant-p1.ensures.position, c.part_of_variant-p1.ensures.length) at c.in-Err-read_weak_shared_road.ensures.refused))))
+read_road_detour-returns-in-Err-read_weak_shared_road-clause-refused g t c = (variant_refuses road_definitions road_shape road_name road_variant_definitions road_variants road_has_variants 1 road_detour_parts refl road_detour_definitions refl _ _ _ c.requires.tag _ _ (later_refuses road_definitions (both road_definitions no_definition) (shared rc_flavor (one road_shape)) (record { size = 4; align = 4 }) (record { solved = λ s k. refl }) (part (weak rc_flavor (one road_shape)) no_part) _ _ 1 _ _ _ c.in-Ok.ensures.read.kept (first_refuses road_definitions no_definition (weak rc_flavor (one road_shape)) (record { size = 4; align = 4 }) (record { solved = λ s k. refl }) no_part _ _ 8 _ _ (rw (c.part_1_of_road_detour-p1.ensures.buffer, c.part_1_of_road_detour-p1.ensures.position, c.part_1_of_road_detour-p1.ensures.length) at c.in-Err-read_weak_shared_road.ensures.refused))))
 
 pub read_road_detour-returns-clause-read : goal.read_road_detour-returns-clause-read
-read_road_detour-returns-clause-read g t c = read_as (road_detour_has_keys c.in-Ok.a0 c.in-Ok-read_weak_shared_road.a1) (road_detour_means c.in-Ok.a0 c.in-Ok-read_weak_shared_road.a1) (variant_read_back road_definitions road_shape road_name road_variant_definitions road_variants road_has_variants 1 road_detour_parts refl road_detour_definitions refl _ _ _ c.requires.tag _ _ _ _ (part_read_back {L = (record { size = 4; align = 4 })} {ks = (rc_keys c.in-Ok.a0.key (one road_shape) 0 (road_meaning c.in-Ok.a0.value.value) (road_keys c.in-Ok.a0.value.value))} {ls = ((option_keys (λ s. (rc_keys s.key (one road_shape) 0 (road_meaning s.value.value) (road_keys s.value.value))) c.in-Ok-read_weak_shared_road.a1.value) ++ [])} (record { solved = λ s k. refl }) (rw (c.part_of_variant-p0.ensures.buffer, c.part_of_variant-p0.ensures.position, c.part_of_variant-p0.ensures.length) at c.in-Ok.ensures.read) (part_read_back {L = (record { size = 4; align = 4 })} {ks = (option_keys (λ s. (rc_keys s.key (one road_shape) 0 (road_meaning s.value.value) (road_keys s.value.value))) c.in-Ok-read_weak_shared_road.a1.value)} {ls = []} (record { solved = λ s k. refl }) (rw (c.part_of_variant-p1.ensures.buffer, c.part_of_variant-p1.ensures.position, c.part_of_variant-p1.ensures.length) at c.in-Ok-read_weak_shared_road.ensures.read) no_part_read_back)))
+read_road_detour-returns-clause-read g t c = read_as (road_detour_has_keys c.in-Ok.a0 c.in-Ok-read_weak_shared_road.a1) (road_detour_means c.in-Ok.a0 c.in-Ok-read_weak_shared_road.a1) (variant_read_back road_definitions road_shape road_name road_variant_definitions road_variants road_has_variants 1 road_detour_parts refl road_detour_definitions refl _ _ _ c.requires.tag _ _ _ _ (part_read_back {L = (record { size = 4; align = 4 })} {ks = (rc_keys c.in-Ok.a0.key (one road_shape) 0 (road_meaning c.in-Ok.a0.value.value) (road_keys c.in-Ok.a0.value.value))} {ls = ((option_keys (λ s. (rc_keys s.key (one road_shape) 0 (road_meaning s.value.value) (road_keys s.value.value))) c.in-Ok-read_weak_shared_road.a1.value) ++ [])} (record { solved = λ s k. refl }) (rw (c.part_0_of_road_detour-p0.ensures.buffer, c.part_0_of_road_detour-p0.ensures.position, c.part_0_of_road_detour-p0.ensures.length) at c.in-Ok.ensures.read) (part_read_back {L = (record { size = 4; align = 4 })} {ks = (option_keys (λ s. (rc_keys s.key (one road_shape) 0 (road_meaning s.value.value) (road_keys s.value.value))) c.in-Ok-read_weak_shared_road.a1.value)} {ls = []} (record { solved = λ s k. refl }) (rw (c.part_1_of_road_detour-p1.ensures.buffer, c.part_1_of_road_detour-p1.ensures.position, c.part_1_of_road_detour-p1.ensures.length) at c.in-Ok-read_weak_shared_road.ensures.read) no_part_read_back)))

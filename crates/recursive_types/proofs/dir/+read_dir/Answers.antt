@@ -46,7 +46,7 @@ pub read_box_dir-returns-clause-read : goal.read_box_dir-returns-clause-read
 read_box_dir-returns-clause-read g t c = (let same : c.in_ok-whole.whole.value ≡ c.in-Ok.value = grind (arith, common_steps) in rw same (box_read entry_definitions c.args.part.bytes.now c.args.part.pos c.args.part.len (one dir_shape) _ _ _ _ c.requires (rw (c.part.ensures.buffer, c.part.ensures.position, c.part.ensures.length, c.before_box.ensures.buffer, c.before_box.ensures.position, c.before_box.ensures.length, c.at-view.ensures.buffer, c.at-view.ensures.position) at c.in-Ok.ensures.read)))
 
 pub read_entry_sub-returns-in-Err-clause-refused : goal.read_entry_sub-returns-in-Err-clause-refused
-read_entry_sub-returns-in-Err-clause-refused g t c = (variant_refuses entry_definitions entry_shape entry_name entry_variant_definitions entry_variants entry_has_variants 1 entry_sub_parts refl entry_sub_definitions refl _ _ _ c.requires.tag _ _ (first_refuses entry_definitions no_definition (boxed (one dir_shape)) (record { size = 4; align = 4 }) (record { solved = λ s k. refl }) no_part _ _ 1 _ _ (rw (c.part_of_variant-p0.ensures.buffer, c.part_of_variant-p0.ensures.position, c.part_of_variant-p0.ensures.length) at c.in-Err.ensures.refused)))
+read_entry_sub-returns-in-Err-clause-refused g t c = (variant_refuses entry_definitions entry_shape entry_name entry_variant_definitions entry_variants entry_has_variants 1 entry_sub_parts refl entry_sub_definitions refl _ _ _ c.requires.tag _ _ (first_refuses entry_definitions no_definition (boxed (one dir_shape)) (record { size = 4; align = 4 }) (record { solved = λ s k. refl }) no_part _ _ 1 _ _ (rw (c.part_0_of_entry_sub-p0.ensures.buffer, c.part_0_of_entry_sub-p0.ensures.position, c.part_0_of_entry_sub-p0.ensures.length) at c.in-Err.ensures.refused)))
 
 pub read_entry_sub-returns-clause-read : goal.read_entry_sub-returns-clause-read
-read_entry_sub-returns-clause-read g t c = read_as (entry_sub_has_keys c.in-Ok.a0) (entry_sub_means c.in-Ok.a0) (variant_read_back entry_definitions entry_shape entry_name entry_variant_definitions entry_variants entry_has_variants 1 entry_sub_parts refl entry_sub_definitions refl _ _ _ c.requires.tag _ _ _ _ (part_read_back {L = (record { size = 4; align = 4 })} {ks = (dir_keys c.in-Ok.a0.value)} {ls = []} (record { solved = λ s k. refl }) (rw (c.part_of_variant-p0.ensures.buffer, c.part_of_variant-p0.ensures.position, c.part_of_variant-p0.ensures.length) at c.in-Ok.ensures.read) no_part_read_back))
+read_entry_sub-returns-clause-read g t c = read_as (entry_sub_has_keys c.in-Ok.a0) (entry_sub_means c.in-Ok.a0) (variant_read_back entry_definitions entry_shape entry_name entry_variant_definitions entry_variants entry_has_variants 1 entry_sub_parts refl entry_sub_definitions refl _ _ _ c.requires.tag _ _ _ _ (part_read_back {L = (record { size = 4; align = 4 })} {ks = (dir_keys c.in-Ok.a0.value)} {ls = []} (record { solved = λ s k. refl }) (rw (c.part_0_of_entry_sub-p0.ensures.buffer, c.part_0_of_entry_sub-p0.ensures.position, c.part_0_of_entry_sub-p0.ensures.length) at c.in-Ok.ensures.read) no_part_read_back))

@@ -37,19 +37,19 @@ pub read_each_expr-returns-clause-read : goal.read_each_expr-returns-clause-read
 read_each_expr-returns-clause-read g t c = (let kept = c.loop-index.invariant in let b = c.before_vec-list.result.bytes.now in let q = c.before_vec-list.result.pos in let n = c.before_vec-list.result.len in let whole : length c.loop-index.items.items ≡ n = omega (arith, kept.0, c.loop-index-test.false, c.loop-index.auto.index-end, c.len-index-end.ensures) in let r = elements_all expr_definitions expr_shape expr_layout expr_has_layout b q (run expr_shape) n n (all_have expr_definitions expr_shape expr_layout expr_has_layout b q n (run expr_shape) n (inl (refl, refl))) expr_meaning expr_keys (g.D.Entries.entry_of c.args.deserializer.now) (g.D.Entries.entry_of c.loop-index.deserializer) c.loop-index.items.items whole (kept.3) in vec_read expr_definitions c.args.part.bytes.now c.args.part.pos c.args.part.len expr_shape _ _ _ _ c.requires (rw (c.before_vec-list.ensures.buffer, c.before_vec-list.ensures.position, c.before_vec-list.ensures.length, c.at-view.ensures.buffer, c.at-view.ensures.position) at r))
 
 pub read_expr_add-returns-in-Err-clause-refused : goal.read_expr_add-returns-in-Err-clause-refused
-read_expr_add-returns-in-Err-clause-refused g t c = (variant_refuses expr_definitions expr_shape expr_name expr_variant_definitions expr_variants expr_has_variants 1 expr_add_parts refl expr_add_definitions refl _ _ _ c.requires.tag _ _ (first_refuses expr_definitions (both expr_definitions no_definition) (boxed (one expr_shape)) (record { size = 4; align = 4 }) (record { solved = λ s k. refl }) (part (boxed (one expr_shape)) no_part) _ _ 1 _ _ (rw (c.part_of_variant-p0.ensures.buffer, c.part_of_variant-p0.ensures.position, c.part_of_variant-p0.ensures.length) at c.in-Err.ensures.refused)))
+read_expr_add-returns-in-Err-clause-refused g t c = (variant_refuses expr_definitions expr_shape expr_name expr_variant_definitions expr_variants expr_has_variants 1 expr_add_parts refl expr_add_definitions refl _ _ _ c.requires.tag _ _ (first_refuses expr_definitions (both expr_definitions no_definition) (boxed (one expr_shape)) (record { size = 4; align = 4 }) (record { solved = λ s k. refl }) (part (boxed (one expr_shape)) no_part) _ _ 1 _ _ (rw (c.part_0_of_expr_add-p0.ensures.buffer, c.part_0_of_expr_add-p0.ensures.position, c.part_0_of_expr_add-p0.ensures.length) at c.in-Err.ensures.refused)))
 
 pub read_expr_add-returns-in-Err-read_box_expr-clause-refused : goal.read_expr_add-returns-in-Err-read_box_expr-clause-refused
-read_expr_add-returns-in-Err-read_box_expr-clause-refused g t c = (variant_refuses expr_definitions expr_shape expr_name expr_variant_definitions expr_variants expr_has_variants 1 expr_add_parts refl expr_add_definitions refl _ _ _ c.requires.tag _ _ (later_refuses expr_definitions (both expr_definitions no_definition) (boxed (one expr_shape)) (record { size = 4; align = 4 }) (record { solved = λ s k. refl }) (part (boxed (one expr_shape)) no_part) _ _ 1 _ _ _ c.in-Ok.ensures.read.kept (first_refuses expr_definitions no_definition (boxed (one expr_shape)) (record { size = 4; align = 4 }) (record { solved = λ s k. refl }) no_part _ _ 8 _ _ (rw (c.part_of_variant-p1.ensures.buffer, c.part_of_variant-p1.ensures.position, c.part_of_variant-p1.ensures.length) at c.in-Err-read_box_expr.ensures.refused))))
+read_expr_add-returns-in-Err-read_box_expr-clause-refused g t c = (variant_refuses expr_definitions expr_shape expr_name expr_variant_definitions expr_variants expr_has_variants 1 expr_add_parts refl expr_add_definitions refl _ _ _ c.requires.tag _ _ (later_refuses expr_definitions (both expr_definitions no_definition) (boxed (one expr_shape)) (record { size = 4; align = 4 }) (record { solved = λ s k. refl }) (part (boxed (one expr_shape)) no_part) _ _ 1 _ _ _ c.in-Ok.ensures.read.kept (first_refuses expr_definitions no_definition (boxed (one expr_shape)) (record { size = 4; align = 4 }) (record { solved = λ s k. refl }) no_part _ _ 8 _ _ (rw (c.part_1_of_expr_add-p1.ensures.buffer, c.part_1_of_expr_add-p1.ensures.position, c.part_1_of_expr_add-p1.ensures.length) at c.in-Err-read_box_expr.ensures.refused))))
 
 pub read_expr_add-returns-clause-read : goal.read_expr_add-returns-clause-read
-read_expr_add-returns-clause-read g t c = read_as (expr_add_has_keys c.in-Ok.a0 c.in-Ok-read_box_expr.a1) (expr_add_means c.in-Ok.a0 c.in-Ok-read_box_expr.a1) (variant_read_back expr_definitions expr_shape expr_name expr_variant_definitions expr_variants expr_has_variants 1 expr_add_parts refl expr_add_definitions refl _ _ _ c.requires.tag _ _ _ _ (part_read_back {L = (record { size = 4; align = 4 })} {ks = (expr_keys c.in-Ok.a0.value)} {ls = ((expr_keys c.in-Ok-read_box_expr.a1.value) ++ [])} (record { solved = λ s k. refl }) (rw (c.part_of_variant-p0.ensures.buffer, c.part_of_variant-p0.ensures.position, c.part_of_variant-p0.ensures.length) at c.in-Ok.ensures.read) (part_read_back {L = (record { size = 4; align = 4 })} {ks = (expr_keys c.in-Ok-read_box_expr.a1.value)} {ls = []} (record { solved = λ s k. refl }) (rw (c.part_of_variant-p1.ensures.buffer, c.part_of_variant-p1.ensures.position, c.part_of_variant-p1.ensures.length) at c.in-Ok-read_box_expr.ensures.read) no_part_read_back)))
+read_expr_add-returns-clause-read g t c = read_as (expr_add_has_keys c.in-Ok.a0 c.in-Ok-read_box_expr.a1) (expr_add_means c.in-Ok.a0 c.in-Ok-read_box_expr.a1) (variant_read_back expr_definitions expr_shape expr_name expr_variant_definitions expr_variants expr_has_variants 1 expr_add_parts refl expr_add_definitions refl _ _ _ c.requires.tag _ _ _ _ (part_read_back {L = (record { size = 4; align = 4 })} {ks = (expr_keys c.in-Ok.a0.value)} {ls = ((expr_keys c.in-Ok-read_box_expr.a1.value) ++ [])} (record { solved = λ s k. refl }) (rw (c.part_0_of_expr_add-p0.ensures.buffer, c.part_0_of_expr_add-p0.ensures.position, c.part_0_of_expr_add-p0.ensures.length) at c.in-Ok.ensures.read) (part_read_back {L = (record { size = 4; align = 4 })} {ks = (expr_keys c.in-Ok-read_box_expr.a1.value)} {ls = []} (record { solved = λ s k. refl }) (rw (c.part_1_of_expr_add-p1.ensures.buffer, c.part_1_of_expr_add-p1.ensures.position, c.part_1_of_expr_add-p1.ensures.length) at c.in-Ok-read_box_expr.ensures.read) no_part_read_back)))
 
 pub read_expr_call-returns-in-Err-clause-refused : goal.read_expr_call-returns-in-Err-clause-refused
-read_expr_call-returns-in-Err-clause-refused g t c = (variant_refuses expr_definitions expr_shape expr_name expr_variant_definitions expr_variants expr_has_variants 2 expr_call_parts refl expr_call_definitions refl _ _ _ c.requires.tag _ _ (first_refuses no_definition (both expr_definitions no_definition) str (record { size = 8; align = 4 }) (record { solved = λ s k. refl }) (part (vec expr_shape) no_part) _ _ 1 _ _ (rw (c.part_of_variant-p0.ensures.buffer, c.part_of_variant-p0.ensures.position, c.part_of_variant-p0.ensures.length) at c.in-Err.ensures.refused)))
+read_expr_call-returns-in-Err-clause-refused g t c = (variant_refuses expr_definitions expr_shape expr_name expr_variant_definitions expr_variants expr_has_variants 2 expr_call_parts refl expr_call_definitions refl _ _ _ c.requires.tag _ _ (first_refuses no_definition (both expr_definitions no_definition) str (record { size = 8; align = 4 }) (record { solved = λ s k. refl }) (part (vec expr_shape) no_part) _ _ 1 _ _ (rw (c.part_0_of_expr_call-p0.ensures.buffer, c.part_0_of_expr_call-p0.ensures.position, c.part_0_of_expr_call-p0.ensures.length) at c.in-Err.ensures.refused)))
 
 pub read_expr_call-returns-in-Err-read_vec_expr-clause-refused : goal.read_expr_call-returns-in-Err-read_vec_expr-clause-refused
-read_expr_call-returns-in-Err-read_vec_expr-clause-refused g t c = (variant_refuses expr_definitions expr_shape expr_name expr_variant_definitions expr_variants expr_has_variants 2 expr_call_parts refl expr_call_definitions refl _ _ _ c.requires.tag _ _ (later_refuses no_definition (both expr_definitions no_definition) str (record { size = 8; align = 4 }) (record { solved = λ s k. refl }) (part (vec expr_shape) no_part) _ _ 1 _ _ _ c.in-Ok.ensures.read.kept (first_refuses expr_definitions no_definition (vec expr_shape) (record { size = 8; align = 4 }) (record { solved = λ s k. refl }) no_part _ _ 12 _ _ (rw (c.part_of_variant-p1.ensures.buffer, c.part_of_variant-p1.ensures.position, c.part_of_variant-p1.ensures.length) at c.in-Err-read_vec_expr.ensures.refused))))
+read_expr_call-returns-in-Err-read_vec_expr-clause-refused g t c = (variant_refuses expr_definitions expr_shape expr_name expr_variant_definitions expr_variants expr_has_variants 2 expr_call_parts refl expr_call_definitions refl _ _ _ c.requires.tag _ _ (later_refuses no_definition (both expr_definitions no_definition) str (record { size = 8; align = 4 }) (record { solved = λ s k. refl }) (part (vec expr_shape) no_part) _ _ 1 _ _ _ c.in-Ok.ensures.read.kept (first_refuses expr_definitions no_definition (vec expr_shape) (record { size = 8; align = 4 }) (record { solved = λ s k. refl }) no_part _ _ 12 _ _ (rw (c.part_1_of_expr_call-p1.ensures.buffer, c.part_1_of_expr_call-p1.ensures.position, c.part_1_of_expr_call-p1.ensures.length) at c.in-Err-read_vec_expr.ensures.refused))))
 
 pub read_expr_call-returns-clause-read : goal.read_expr_call-returns-clause-read
-read_expr_call-returns-clause-read g t c = read_as (expr_call_has_keys c.in-Ok.a0 c.in-Ok-read_vec_expr.a1) (expr_call_means c.in-Ok.a0 c.in-Ok-read_vec_expr.a1) (variant_read_back expr_definitions expr_shape expr_name expr_variant_definitions expr_variants expr_has_variants 2 expr_call_parts refl expr_call_definitions refl _ _ _ c.requires.tag _ _ _ _ (part_read_back {L = (record { size = 8; align = 4 })} {ks = []} {ls = ((each_keys expr_keys c.in-Ok-read_vec_expr.a1.items) ++ [])} (record { solved = λ s k. refl }) (rw (c.part_of_variant-p0.ensures.buffer, c.part_of_variant-p0.ensures.position, c.part_of_variant-p0.ensures.length) at c.in-Ok.ensures.read) (part_read_back {L = (record { size = 8; align = 4 })} {ks = (each_keys expr_keys c.in-Ok-read_vec_expr.a1.items)} {ls = []} (record { solved = λ s k. refl }) (rw (c.part_of_variant-p1.ensures.buffer, c.part_of_variant-p1.ensures.position, c.part_of_variant-p1.ensures.length) at c.in-Ok-read_vec_expr.ensures.read) no_part_read_back)))
+read_expr_call-returns-clause-read g t c = read_as (expr_call_has_keys c.in-Ok.a0 c.in-Ok-read_vec_expr.a1) (expr_call_means c.in-Ok.a0 c.in-Ok-read_vec_expr.a1) (variant_read_back expr_definitions expr_shape expr_name expr_variant_definitions expr_variants expr_has_variants 2 expr_call_parts refl expr_call_definitions refl _ _ _ c.requires.tag _ _ _ _ (part_read_back {L = (record { size = 8; align = 4 })} {ks = []} {ls = ((each_keys expr_keys c.in-Ok-read_vec_expr.a1.items) ++ [])} (record { solved = λ s k. refl }) (rw (c.part_0_of_expr_call-p0.ensures.buffer, c.part_0_of_expr_call-p0.ensures.position, c.part_0_of_expr_call-p0.ensures.length) at c.in-Ok.ensures.read) (part_read_back {L = (record { size = 8; align = 4 })} {ks = (each_keys expr_keys c.in-Ok-read_vec_expr.a1.items)} {ls = []} (record { solved = λ s k. refl }) (rw (c.part_1_of_expr_call-p1.ensures.buffer, c.part_1_of_expr_call-p1.ensures.position, c.part_1_of_expr_call-p1.ensures.length) at c.in-Ok-read_vec_expr.ensures.read) no_part_read_back)))

@@ -30,7 +30,7 @@ pub read_each_stmt-returns-clause-read : goal.read_each_stmt-returns-clause-read
 read_each_stmt-returns-clause-read g t c = (let kept = c.loop-index.invariant in let b = c.before_vec-list.result.bytes.now in let q = c.before_vec-list.result.pos in let n = c.before_vec-list.result.len in let whole : length c.loop-index.items.items ≡ n = omega (arith, kept.0, c.loop-index-test.false, c.loop-index.auto.index-end, c.len-index-end.ensures) in let r = elements_all stmt_definitions stmt_shape stmt_layout stmt_has_layout b q (run stmt_shape) n n (all_have stmt_definitions stmt_shape stmt_layout stmt_has_layout b q n (run stmt_shape) n (inl (refl, refl))) stmt_meaning stmt_keys (g.D.Entries.entry_of c.args.deserializer.now) (g.D.Entries.entry_of c.loop-index.deserializer) c.loop-index.items.items whole (kept.3) in vec_read stmt_definitions c.args.part.bytes.now c.args.part.pos c.args.part.len stmt_shape _ _ _ _ c.requires (rw (c.before_vec-list.ensures.buffer, c.before_vec-list.ensures.position, c.before_vec-list.ensures.length, c.at-view.ensures.buffer, c.at-view.ensures.position) at r))
 
 pub read_stmt_block-returns-in-Err-clause-refused : goal.read_stmt_block-returns-in-Err-clause-refused
-read_stmt_block-returns-in-Err-clause-refused g t c = (variant_refuses stmt_definitions stmt_shape stmt_name stmt_variant_definitions stmt_variants stmt_has_variants 1 stmt_block_parts refl stmt_block_definitions refl _ _ _ c.requires.tag _ _ (first_refuses stmt_definitions no_definition (vec stmt_shape) (record { size = 8; align = 4 }) (record { solved = λ s k. refl }) no_part _ _ 1 _ _ (rw (c.part_of_variant-p0.ensures.buffer, c.part_of_variant-p0.ensures.position, c.part_of_variant-p0.ensures.length) at c.in-Err.ensures.refused)))
+read_stmt_block-returns-in-Err-clause-refused g t c = (variant_refuses stmt_definitions stmt_shape stmt_name stmt_variant_definitions stmt_variants stmt_has_variants 1 stmt_block_parts refl stmt_block_definitions refl _ _ _ c.requires.tag _ _ (first_refuses stmt_definitions no_definition (vec stmt_shape) (record { size = 8; align = 4 }) (record { solved = λ s k. refl }) no_part _ _ 1 _ _ (rw (c.part_0_of_stmt_block-p0.ensures.buffer, c.part_0_of_stmt_block-p0.ensures.position, c.part_0_of_stmt_block-p0.ensures.length) at c.in-Err.ensures.refused)))
 
 pub read_stmt_block-returns-clause-read : goal.read_stmt_block-returns-clause-read
-read_stmt_block-returns-clause-read g t c = read_as (stmt_block_has_keys c.in-Ok.a0) (stmt_block_means c.in-Ok.a0) (variant_read_back stmt_definitions stmt_shape stmt_name stmt_variant_definitions stmt_variants stmt_has_variants 1 stmt_block_parts refl stmt_block_definitions refl _ _ _ c.requires.tag _ _ _ _ (part_read_back {L = (record { size = 8; align = 4 })} {ks = (each_keys stmt_keys c.in-Ok.a0.items)} {ls = []} (record { solved = λ s k. refl }) (rw (c.part_of_variant-p0.ensures.buffer, c.part_of_variant-p0.ensures.position, c.part_of_variant-p0.ensures.length) at c.in-Ok.ensures.read) no_part_read_back))
+read_stmt_block-returns-clause-read g t c = read_as (stmt_block_has_keys c.in-Ok.a0) (stmt_block_means c.in-Ok.a0) (variant_read_back stmt_definitions stmt_shape stmt_name stmt_variant_definitions stmt_variants stmt_has_variants 1 stmt_block_parts refl stmt_block_definitions refl _ _ _ c.requires.tag _ _ _ _ (part_read_back {L = (record { size = 8; align = 4 })} {ks = (each_keys stmt_keys c.in-Ok.a0.items)} {ls = []} (record { solved = λ s k. refl }) (rw (c.part_0_of_stmt_block-p0.ensures.buffer, c.part_0_of_stmt_block-p0.ensures.position, c.part_0_of_stmt_block-p0.ensures.length) at c.in-Ok.ensures.read) no_part_read_back))
