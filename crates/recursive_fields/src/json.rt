@@ -79,7 +79,7 @@ ghost use Rattle.archive_core.specs.Written.{GoesOn};
 ghost use Rattle.recursive_fields.specs.JsonShape.{json_definitions, json_has_layout, json_has_variants, json_is_align, json_layout, json_list_parts, json_name, json_no_others, json_number_parts, json_object_parts, json_shape, json_stands_for, json_text_parts, json_variant_definitions, json_variants, member_type_definitions, member_type_has_layout, member_type_has_parts, member_type_is_align, member_type_layout, member_type_name, member_type_no_others, member_type_parts, member_type_shape, member_type_stands_for};
 ghost use Rattle.recursive_fields.specs.MessageShape.{message_definitions, message_has_layout, message_has_variants, message_is_align, message_layout, message_name, message_no_others, message_shape};
 ghost use Rattle.std.proofs.Common.{inl, inr, lit≤};
-ghost use Rattle.std.specs.Prelude.{IfErr, IfOk, None, OnOk, Some, [], length, refl, true, ℕ, ◌++◌, ◌+◌, ◌≡◌, ◌≤◌};
+ghost use Rattle.std.specs.Prelude.{IfErr, IfOk, None, OnOk, Some, [], length, refl, true, ℕ, ◌++◌, ◌+◌, ◌<◌, ◌≡◌, ◌≤◌};
 
 use archive_core::error::Error;
 use archive_core::fields::{copy_1, part_in_record, resolve_0, resolve_1, serialize_record_1};
@@ -88,11 +88,11 @@ use archive_core::place::Place;
 use archive_core::primitive::ArchivedI64;
 use archive_core::record::deserialize_record;
 use archive_core::recursive::{
-    VecAt, before_vec, define_choice, define_record, expression_of, first_expression, first_variant,
-    handed_on, named_expression, no_expressions, no_variants, part_of_record, part_of_variant,
-    read_part, resolve_named_case_0, resolve_named_case_2, resolve_named_record_2, seal_of_field,
-    seal_of_payload, serialize_part, serialize_run, tag_of_choice, tag_of_view, vec_expression,
-    view_of_field, view_of_payload,
+    VecAt, before_vec, define_choice, define_record, expression_of, first_expression,
+    first_variant, handed_on, named_expression, no_expressions, no_variants, part_of_record,
+    part_of_variant, read_part, resolve_named_case_0, resolve_named_case_2, resolve_named_record_2,
+    seal_of_field, seal_of_payload, serialize_part, serialize_run, tag_of_choice, tag_of_view,
+    vec_expression, view_of_field, view_of_payload,
 };
 use archive_core::seal::{Seal, sealed_part_in_record};
 use archive_core::self_check::{BySchema, RecordCheck, SelfCheck};
@@ -340,9 +340,7 @@ impl Archive for Json {
     {
         let Place { bytes, pos, .. } = place;
         match self {
-            Json::Null => {
-                resolve_json_0(0, (), Place::new(pos, bytes))
-            }
+            Json::Null => { resolve_json_0(0, (), Place::new(pos, bytes)) }
             Json::Number(a0) => {
                 let JsonResolver::Number(kept) = resolver else {
                     unreachable!();
@@ -389,7 +387,10 @@ impl Archive for Json {
 
 // Writes what each of the values owns, in order.
 #[cycle(serialize_json)]
-fn serialize_each_json<S: Writer + Keys + ResolverAlloc>(values: &[Json], serializer: &mut S) -> Result<Vec<<Json as Archive>::Resolver, S::Alloc>, Error>
+fn serialize_each_json<S: Writer + Keys + ResolverAlloc>(
+    values: &[Json],
+    serializer: &mut S,
+) -> Result<Vec<<Json as Archive>::Resolver, S::Alloc>, Error>
     ensures serialized { IfOk result (λ rs. SerializedRun json_definitions json_shape
         (length values.now) (each_keys ⟦<Json as Archive>⟧.keys values.now)
         (each_meaning ⟦<Json as Archive>⟧.meaning values.now)
@@ -417,7 +418,10 @@ fn serialize_each_json<S: Writer + Keys + ResolverAlloc>(values: &[Json], serial
 
 // Writes what a vector owns.
 #[cycle(serialize_json)]
-fn serialize_vec_json<S: Writer + Keys + ResolverAlloc>(value: &Vec<Json>, serializer: &mut S) -> Result<VecResolver, Error>
+fn serialize_vec_json<S: Writer + Keys + ResolverAlloc>(
+    value: &Vec<Json>,
+    serializer: &mut S,
+) -> Result<VecResolver, Error>
     ensures serialized { IfOk result (λ r. Serialized json_definitions (vec json_shape)
         (⟦<Vec<Json> as Archive>⟧.keys value.now) (⟦<Vec<Json> as Archive>⟧.meaning value.now)
         (⟦<Vec<Json> as Archive>⟧.flat value.now r) (S.state serializer.old)
@@ -444,7 +448,10 @@ fn serialize_vec_json<S: Writer + Keys + ResolverAlloc>(value: &Vec<Json>, seria
 
 // Writes what each of the values owns, in order.
 #[cycle(serialize_json)]
-fn serialize_each_member_type<S: Writer + Keys + ResolverAlloc>(values: &[Member], serializer: &mut S) -> Result<Vec<<Member as Archive>::Resolver, S::Alloc>, Error>
+fn serialize_each_member_type<S: Writer + Keys + ResolverAlloc>(
+    values: &[Member],
+    serializer: &mut S,
+) -> Result<Vec<<Member as Archive>::Resolver, S::Alloc>, Error>
     ensures serialized { IfOk result (λ rs. SerializedRun json_definitions member_type_shape
         (length values.now) (each_keys ⟦<Member as Archive>⟧.keys values.now)
         (each_meaning ⟦<Member as Archive>⟧.meaning values.now)
@@ -472,7 +479,10 @@ fn serialize_each_member_type<S: Writer + Keys + ResolverAlloc>(values: &[Member
 
 // Writes what a vector owns.
 #[cycle(serialize_json)]
-fn serialize_vec_member_type<S: Writer + Keys + ResolverAlloc>(value: &Vec<Member>, serializer: &mut S) -> Result<VecResolver, Error>
+fn serialize_vec_member_type<S: Writer + Keys + ResolverAlloc>(
+    value: &Vec<Member>,
+    serializer: &mut S,
+) -> Result<VecResolver, Error>
     ensures serialized { IfOk result (λ r. Serialized json_definitions (vec member_type_shape)
         (⟦<Vec<Member> as Archive>⟧.keys value.now) (⟦<Vec<Member> as Archive>⟧.meaning value.now)
         (⟦<Vec<Member> as Archive>⟧.flat value.now r) (S.state serializer.old)
@@ -599,7 +609,10 @@ fn serialize_json_object<S: Writer + Keys + ResolverAlloc>(
 
 // Writes what a value owns.
 #[cycle(serialize_json)]
-fn serialize_whole_json<S: Writer + Keys + ResolverAlloc>(value: &Json, serializer: &mut S) -> Result<JsonResolver, Error>
+fn serialize_whole_json<S: Writer + Keys + ResolverAlloc>(
+    value: &Json,
+    serializer: &mut S,
+) -> Result<JsonResolver, Error>
     ensures serialized { IfOk result (λ r. Serialized json_definitions json_shape
         (⟦<Json as Archive>⟧.keys value.now) (⟦<Json as Archive>⟧.meaning value.now)
         (⟦<Json as Archive>⟧.flat value.now r) (S.state serializer.old) (S.state serializer.new)) }
@@ -633,7 +646,10 @@ fn serialize_whole_json<S: Writer + Keys + ResolverAlloc>(value: &Json, serializ
 // The same by a call, whose result has its room only while it lasts.
 #[cycle(serialize_json)]
 #[inline(always)]
-fn serialize_json<S: Writer + Keys + ResolverAlloc>(value: &Json, serializer: &mut S) -> Result<JsonResolver, Error>
+fn serialize_json<S: Writer + Keys + ResolverAlloc>(
+    value: &Json,
+    serializer: &mut S,
+) -> Result<JsonResolver, Error>
     ensures serialized { IfOk result (λ r. Serialized json_definitions json_shape
         (⟦<Json as Archive>⟧.keys value.now) (⟦<Json as Archive>⟧.meaning value.now)
         (⟦<Json as Archive>⟧.flat value.now r) (S.state serializer.old) (S.state serializer.new)) }
@@ -685,6 +701,16 @@ impl<S: Writer + Keys + ResolverAlloc> SerializeUnsized<S> for Json {
     }
 }
 
+// The tag of a value, which names its variant.
+#[inline(always)]
+fn tag_of_json(part: RawView<'_>) -> u8
+    requires { IsPartOf ⟦<ArchivedJson as ArchivePointee>⟧ part }
+    ensures tag { result ≡ part_tag part.entry }
+    ensures below { result < 5 }
+{
+    tag_of_choice::<ArchivedJson>(part)
+}
+
 // The part of a value that is `List` with the index 0.
 #[inline(always)]
 fn part_0_of_json_list<'a>(part: RawView<'a>) -> RawView<'a>
@@ -714,7 +740,11 @@ fn part_0_of_json_object<'a>(part: RawView<'a>) -> RawView<'a>
 // Reads a vector back. One with no elements takes no call, whose result would go through memory.
 #[cycle(read_json)]
 #[inline(always)]
-fn read_vec_json<D: Entries>(alloc: Global, part: RawView<'_>, deserializer: &mut D) -> Result<Vec<Json>, Error>
+fn read_vec_json<D: Entries>(
+    alloc: Global,
+    part: RawView<'_>,
+    deserializer: &mut D,
+) -> Result<Vec<Json>, Error>
     requires { IsPartOf ⟦<ArchivedVec<ArchivedJson> as ArchivePointee>⟧ part }
     ensures read { IfOk result (Read ⟦<ArchivedVec<ArchivedJson> as ArchivePointee>⟧ part D.Entries
         deserializer ⟦<Vec<Json> as Archive>⟧) }
@@ -731,7 +761,11 @@ fn read_vec_json<D: Entries>(alloc: Global, part: RawView<'_>, deserializer: &mu
 // Reads the elements of a vector back.
 #[cycle(read_json)]
 #[inline(always)]
-fn read_each_json<D: Entries>(alloc: Global, part: RawView<'_>, deserializer: &mut D) -> Result<Vec<Json>, Error>
+fn read_each_json<D: Entries>(
+    alloc: Global,
+    part: RawView<'_>,
+    deserializer: &mut D,
+) -> Result<Vec<Json>, Error>
     requires { IsPartOf ⟦<ArchivedVec<ArchivedJson> as ArchivePointee>⟧ part }
     ensures read { IfOk result (Read ⟦<ArchivedVec<ArchivedJson> as ArchivePointee>⟧ part D.Entries
         deserializer ⟦<Vec<Json> as Archive>⟧) }
@@ -754,7 +788,11 @@ fn read_each_json<D: Entries>(alloc: Global, part: RawView<'_>, deserializer: &m
 // Reads a vector back. One with no elements takes no call, whose result would go through memory.
 #[cycle(read_json)]
 #[inline(always)]
-fn read_vec_member_type<D: Entries>(alloc: Global, part: RawView<'_>, deserializer: &mut D) -> Result<Vec<Member>, Error>
+fn read_vec_member_type<D: Entries>(
+    alloc: Global,
+    part: RawView<'_>,
+    deserializer: &mut D,
+) -> Result<Vec<Member>, Error>
     requires { IsPartOf ⟦<ArchivedVec<ArchivedMember> as ArchivePointee>⟧ part }
     ensures read { IfOk result (Read ⟦<ArchivedVec<ArchivedMember> as ArchivePointee>⟧ part
         D.Entries deserializer ⟦<Vec<Member> as Archive>⟧) }
@@ -771,7 +809,11 @@ fn read_vec_member_type<D: Entries>(alloc: Global, part: RawView<'_>, deserializ
 // Reads the elements of a vector back.
 #[cycle(read_json)]
 #[inline(always)]
-fn read_each_member_type<D: Entries>(alloc: Global, part: RawView<'_>, deserializer: &mut D) -> Result<Vec<Member>, Error>
+fn read_each_member_type<D: Entries>(
+    alloc: Global,
+    part: RawView<'_>,
+    deserializer: &mut D,
+) -> Result<Vec<Member>, Error>
     requires { IsPartOf ⟦<ArchivedVec<ArchivedMember> as ArchivePointee>⟧ part }
     ensures read { IfOk result (Read ⟦<ArchivedVec<ArchivedMember> as ArchivePointee>⟧ part
         D.Entries deserializer ⟦<Vec<Member> as Archive>⟧) }
@@ -793,7 +835,11 @@ fn read_each_member_type<D: Entries>(alloc: Global, part: RawView<'_>, deseriali
 
 // Reads `Null` back.
 #[inline(always)]
-fn read_json_null<D: Entries>(_alloc: Global, part: RawView<'_>, _deserializer: &mut D) -> Result<Json, Error>
+fn read_json_null<D: Entries>(
+    _alloc: Global,
+    part: RawView<'_>,
+    _deserializer: &mut D,
+) -> Result<Json, Error>
     requires viewed { IsPartOf ⟦<ArchivedJson as ArchivePointee>⟧ part }
     requires tag { part_tag part ≡ 0 }
     ensures read { IfOk result (Read ⟦<ArchivedJson as ArchivePointee>⟧ part D.Entries _deserializer
@@ -806,7 +852,11 @@ fn read_json_null<D: Entries>(_alloc: Global, part: RawView<'_>, _deserializer: 
 
 // Reads `Number` back.
 #[inline(always)]
-fn read_json_number<D: Entries>(alloc: Global, part: RawView<'_>, deserializer: &mut D) -> Result<Json, Error>
+fn read_json_number<D: Entries>(
+    alloc: Global,
+    part: RawView<'_>,
+    deserializer: &mut D,
+) -> Result<Json, Error>
     requires viewed { IsPartOf ⟦<ArchivedJson as ArchivePointee>⟧ part }
     requires tag { part_tag part ≡ 1 }
     ensures read { IfOk result (Read ⟦<ArchivedJson as ArchivePointee>⟧ part D.Entries deserializer
@@ -824,7 +874,11 @@ fn read_json_number<D: Entries>(alloc: Global, part: RawView<'_>, deserializer: 
 
 // Reads `Text` back.
 #[inline(always)]
-fn read_json_text<D: Entries>(alloc: Global, part: RawView<'_>, deserializer: &mut D) -> Result<Json, Error>
+fn read_json_text<D: Entries>(
+    alloc: Global,
+    part: RawView<'_>,
+    deserializer: &mut D,
+) -> Result<Json, Error>
     requires viewed { IsPartOf ⟦<ArchivedJson as ArchivePointee>⟧ part }
     requires tag { part_tag part ≡ 2 }
     ensures read { IfOk result (Read ⟦<ArchivedJson as ArchivePointee>⟧ part D.Entries deserializer
@@ -843,7 +897,11 @@ fn read_json_text<D: Entries>(alloc: Global, part: RawView<'_>, deserializer: &m
 // Reads `List` back.
 #[cycle(read_json)]
 #[inline(never)]
-fn read_json_list<D: Entries>(alloc: Global, part: RawView<'_>, deserializer: &mut D) -> Result<Json, Error>
+fn read_json_list<D: Entries>(
+    alloc: Global,
+    part: RawView<'_>,
+    deserializer: &mut D,
+) -> Result<Json, Error>
     requires viewed { IsPartOf ⟦<ArchivedJson as ArchivePointee>⟧ part }
     requires tag { part_tag part ≡ 3 }
     ensures read { IfOk result (Read ⟦<ArchivedJson as ArchivePointee>⟧ part D.Entries deserializer
@@ -862,7 +920,11 @@ fn read_json_list<D: Entries>(alloc: Global, part: RawView<'_>, deserializer: &m
 // Reads `Object` back.
 #[cycle(read_json)]
 #[inline(never)]
-fn read_json_object<D: Entries>(alloc: Global, part: RawView<'_>, deserializer: &mut D) -> Result<Json, Error>
+fn read_json_object<D: Entries>(
+    alloc: Global,
+    part: RawView<'_>,
+    deserializer: &mut D,
+) -> Result<Json, Error>
     requires viewed { IsPartOf ⟦<ArchivedJson as ArchivePointee>⟧ part }
     requires tag { part_tag part ≡ 4 }
     ensures read { IfOk result (Read ⟦<ArchivedJson as ArchivePointee>⟧ part D.Entries deserializer
@@ -881,14 +943,18 @@ fn read_json_object<D: Entries>(alloc: Global, part: RawView<'_>, deserializer: 
 // Reads a value back.
 #[cycle(read_json)]
 #[inline(always)]
-fn read_json<D: Entries>(alloc: Global, part: RawView<'_>, deserializer: &mut D) -> Result<Json, Error>
+fn read_json<D: Entries>(
+    alloc: Global,
+    part: RawView<'_>,
+    deserializer: &mut D,
+) -> Result<Json, Error>
     requires { IsPartOf ⟦<ArchivedJson as ArchivePointee>⟧ part }
     ensures read { IfOk result (Read ⟦<ArchivedJson as ArchivePointee>⟧ part D.Entries deserializer
         ⟦<Json as Archive>⟧) }
     ensures refused { IfErr result (RefusesPart ⟦<ArchivedJson as ArchivePointee>⟧ part D.Entries
         deserializer) }
 {
-    match tag_of_choice::<ArchivedJson>(part) {
+    match tag_of_json(part) {
         0 => read_json_null(alloc, part, deserializer),
         1 => read_json_number(alloc, part, deserializer),
         2 => read_json_text(alloc, part, deserializer),
@@ -962,7 +1028,9 @@ impl<'a> JsonView<'a> for Ref<'a, ArchivedJson> {
                 ViewOfJson::List(a0)
             }
             _ => {
-                let a0 = view_of_payload::<ArchivedJson, ArchivedVec<ArchivedMember>>(self, 4, 0, 4);
+                let a0 = view_of_payload::<ArchivedJson, ArchivedVec<ArchivedMember>>(
+                    self, 4, 0, 4,
+                );
                 ViewOfJson::Object(a0)
             }
         }
@@ -1199,7 +1267,10 @@ impl Archive for Member {
 
 // Writes what a value owns, part by part.
 #[cycle(serialize_json)]
-fn serialize_whole_member_type<S: Writer + Keys + ResolverAlloc>(value: &Member, serializer: &mut S) -> Result<MemberResolver, Error>
+fn serialize_whole_member_type<S: Writer + Keys + ResolverAlloc>(
+    value: &Member,
+    serializer: &mut S,
+) -> Result<MemberResolver, Error>
     ensures serialized { IfOk result (λ r. Serialized member_type_definitions member_type_shape
         (⟦<Member as Archive>⟧.keys value.now) (⟦<Member as Archive>⟧.meaning value.now)
         (⟦<Member as Archive>⟧.flat value.now r) (S.state serializer.old)
@@ -1218,13 +1289,18 @@ fn serialize_whole_member_type<S: Writer + Keys + ResolverAlloc>(value: &Member,
         Ok(a1) => a1,
         Err(error) => return Err(handed_on(error)),
     };
-    Ok(MemberResolver { kept: (a0, (a1, ())) })
+    Ok(MemberResolver {
+        kept: (a0, (a1, ())),
+    })
 }
 
 // The same by a call, whose result has its room only while it lasts.
 #[cycle(serialize_json)]
 #[inline(always)]
-fn serialize_member_type<S: Writer + Keys + ResolverAlloc>(value: &Member, serializer: &mut S) -> Result<MemberResolver, Error>
+fn serialize_member_type<S: Writer + Keys + ResolverAlloc>(
+    value: &Member,
+    serializer: &mut S,
+) -> Result<MemberResolver, Error>
     ensures serialized { IfOk result (λ r. Serialized member_type_definitions member_type_shape
         (⟦<Member as Archive>⟧.keys value.now) (⟦<Member as Archive>⟧.meaning value.now)
         (⟦<Member as Archive>⟧.flat value.now r) (S.state serializer.old)
@@ -1280,7 +1356,11 @@ impl<S: Writer + Keys + ResolverAlloc> SerializeUnsized<S> for Member {
 // Reads a value back, part by part.
 #[cycle(read_json)]
 #[inline(always)]
-fn read_member_type<D: Entries>(alloc: Global, part: RawView<'_>, deserializer: &mut D) -> Result<Member, Error>
+fn read_member_type<D: Entries>(
+    alloc: Global,
+    part: RawView<'_>,
+    deserializer: &mut D,
+) -> Result<Member, Error>
     requires { IsPartOf ⟦<ArchivedMember as ArchivePointee>⟧ part }
     ensures read { IfOk result (Read ⟦<ArchivedMember as ArchivePointee>⟧ part D.Entries
         deserializer ⟦<Member as Archive>⟧) }
@@ -1519,10 +1599,8 @@ impl Archive for Number {
     ) -> Result<(), Error>
         requires zeroed { ZeroedPlace 8 place.pos place.bytes.now }
         requires same_value { ⟦<Self as Archive>⟧.belongs self.now resolver }
-        ensures {
-            ResolvesAs ⟦<Self::Archived as Portable>⟧ place
-                (⟦<Self as Archive>⟧.flat self.now resolver) result
-        }
+        ensures { ResolvesAs ⟦<Self::Archived as Portable>⟧ place
+            (⟦<Self as Archive>⟧.flat self.now resolver) result }
     {
         let Place { bytes, .. } = place;
         self.copy_one(bytes);
@@ -1809,7 +1887,10 @@ impl Archive for Message {
                     Place::new(pos, bytes),
                 )
             }
-            Message::Listed { others: a0, documents: a1 } => {
+            Message::Listed {
+                others: a0,
+                documents: a1,
+            } => {
                 let MessageResolver::Listed(kept) = resolver else {
                     unreachable!();
                 };
@@ -1918,7 +1999,10 @@ fn serialize_message_listed<S: Writer + Keys + ResolverAlloc>(
 }
 
 // Writes what a value owns.
-fn serialize_message<S: Writer + Keys + ResolverAlloc>(value: &Message, serializer: &mut S) -> Result<MessageResolver, Error>
+fn serialize_message<S: Writer + Keys + ResolverAlloc>(
+    value: &Message,
+    serializer: &mut S,
+) -> Result<MessageResolver, Error>
     ensures serialized { IfOk result (λ r. Serialized message_definitions message_shape
         (⟦<Message as Archive>⟧.keys value.now) (⟦<Message as Archive>⟧.meaning value.now)
         (⟦<Message as Archive>⟧.flat value.now r) (S.state serializer.old)
@@ -1935,7 +2019,10 @@ fn serialize_message<S: Writer + Keys + ResolverAlloc>(value: &Message, serializ
             Ok(kept) => Ok(MessageResolver::Sent(kept)),
             Err(error) => Err(error),
         },
-        Message::Listed { others: a0, documents: a1 } => match serialize_message_listed(a0, a1, serializer) {
+        Message::Listed {
+            others: a0,
+            documents: a1,
+        } => match serialize_message_listed(a0, a1, serializer) {
             Ok(kept) => Ok(MessageResolver::Listed(kept)),
             Err(error) => Err(error),
         },
@@ -1983,7 +2070,11 @@ impl<S: Writer + Keys + ResolverAlloc> SerializeUnsized<S> for Message {
 
 // Reads `Nothing` back.
 #[inline(always)]
-fn read_message_nothing<D: Entries>(_alloc: Global, part: RawView<'_>, _deserializer: &mut D) -> Result<Message, Error>
+fn read_message_nothing<D: Entries>(
+    _alloc: Global,
+    part: RawView<'_>,
+    _deserializer: &mut D,
+) -> Result<Message, Error>
     requires viewed { IsPartOf ⟦<ArchivedMessage as ArchivePointee>⟧ part }
     requires tag { part_tag part ≡ 0 }
     ensures read { IfOk result (Read ⟦<ArchivedMessage as ArchivePointee>⟧ part D.Entries
@@ -1996,7 +2087,11 @@ fn read_message_nothing<D: Entries>(_alloc: Global, part: RawView<'_>, _deserial
 
 // Reads `Sent` back.
 #[inline(always)]
-fn read_message_sent<D: Entries>(alloc: Global, part: RawView<'_>, deserializer: &mut D) -> Result<Message, Error>
+fn read_message_sent<D: Entries>(
+    alloc: Global,
+    part: RawView<'_>,
+    deserializer: &mut D,
+) -> Result<Message, Error>
     requires viewed { IsPartOf ⟦<ArchivedMessage as ArchivePointee>⟧ part }
     requires tag { part_tag part ≡ 1 }
     ensures read { IfOk result (Read ⟦<ArchivedMessage as ArchivePointee>⟧ part D.Entries
@@ -2023,7 +2118,11 @@ fn read_message_sent<D: Entries>(alloc: Global, part: RawView<'_>, deserializer:
 
 // Reads `Listed` back.
 #[inline(always)]
-fn read_message_listed<D: Entries>(alloc: Global, part: RawView<'_>, deserializer: &mut D) -> Result<Message, Error>
+fn read_message_listed<D: Entries>(
+    alloc: Global,
+    part: RawView<'_>,
+    deserializer: &mut D,
+) -> Result<Message, Error>
     requires viewed { IsPartOf ⟦<ArchivedMessage as ArchivePointee>⟧ part }
     requires tag { part_tag part ≡ 2 }
     ensures read { IfOk result (Read ⟦<ArchivedMessage as ArchivePointee>⟧ part D.Entries
@@ -2049,7 +2148,11 @@ fn read_message_listed<D: Entries>(alloc: Global, part: RawView<'_>, deserialize
 
 // Reads a value back.
 #[inline(always)]
-fn read_message<D: Entries>(alloc: Global, part: RawView<'_>, deserializer: &mut D) -> Result<Message, Error>
+fn read_message<D: Entries>(
+    alloc: Global,
+    part: RawView<'_>,
+    deserializer: &mut D,
+) -> Result<Message, Error>
     requires { IsPartOf ⟦<ArchivedMessage as ArchivePointee>⟧ part }
     ensures read { IfOk result (Read ⟦<ArchivedMessage as ArchivePointee>⟧ part D.Entries
         deserializer ⟦<Message as Archive>⟧) }

@@ -36,7 +36,7 @@ ghost use Rattle.archive_core.specs.Written.{GoesOn};
 ghost use Rattle.recursive_fields.specs.NoteMeaning.{tuple3_string_note_option_string_keys, tuple3_string_note_option_string_meaning};
 ghost use Rattle.recursive_fields.specs.NoteShape.{note_definitions, note_has_layout, note_has_variants, note_is_align, note_layout, note_name, note_no_others, note_shape, note_table_parts, note_text_parts, note_variant_definitions, note_variants, note_work_parts, tuple3_string_note_option_string_definitions, tuple3_string_note_option_string_has_layout, tuple3_string_note_option_string_has_parts, tuple3_string_note_option_string_is_align, tuple3_string_note_option_string_layout, tuple3_string_note_option_string_no_others, tuple3_string_note_option_string_parts, tuple3_string_note_option_string_shape};
 ghost use Rattle.std.proofs.Common.{lit≤};
-ghost use Rattle.std.specs.Prelude.{IfErr, IfOk, None, OnOk, Some, [], length, refl, ℕ, ◌++◌, ◌+◌, ◌≡◌, ◌≤◌};
+ghost use Rattle.std.specs.Prelude.{IfErr, IfOk, None, OnOk, Some, [], length, refl, ℕ, ◌++◌, ◌+◌, ◌<◌, ◌≡◌, ◌≤◌};
 
 use archive_core::core_impls::ArchivedTuple3;
 use archive_core::error::Error;
@@ -369,7 +369,10 @@ impl Archive for Note {
 
 // Writes what each of the values owns, in order.
 #[cycle(serialize_note)]
-fn serialize_each_tuple3_string_note_option_string<S: Writer + Keys + ResolverAlloc>(values: &[(String, Note, Option<String>)], serializer: &mut S) -> Result<Vec<<(String, Note, Option<String>) as Archive>::Resolver, S::Alloc>, Error>
+fn serialize_each_tuple3_string_note_option_string<S: Writer + Keys + ResolverAlloc>(
+    values: &[(String, Note, Option<String>)],
+    serializer: &mut S,
+) -> Result<Vec<<(String, Note, Option<String>) as Archive>::Resolver, S::Alloc>, Error>
     ensures serialized { IfOk result (λ rs. SerializedRun
         tuple3_string_note_option_string_definitions tuple3_string_note_option_string_shape
         (length values.now) (each_keys ⟦<(String, Note, Option<String>) as Archive>⟧.keys
@@ -407,15 +410,17 @@ fn serialize_each_tuple3_string_note_option_string<S: Writer + Keys + ResolverAl
 
 // Writes what a vector owns.
 #[cycle(serialize_note)]
-fn serialize_vec_tuple3_string_note_option_string<S: Writer + Keys + ResolverAlloc>(value: &Vec<(String, Note, Option<String>)>, serializer: &mut S) -> Result<VecResolver, Error>
+fn serialize_vec_tuple3_string_note_option_string<S: Writer + Keys + ResolverAlloc>(
+    value: &Vec<(String, Note, Option<String>)>,
+    serializer: &mut S,
+) -> Result<VecResolver, Error>
     ensures serialized { IfOk result (λ r. Serialized tuple3_string_note_option_string_definitions
         (vec tuple3_string_note_option_string_shape)
         (⟦<Vec<(String, Note, Option<String>)> as Archive>⟧.keys value.now)
         (⟦<Vec<(String, Note, Option<String>)> as Archive>⟧.meaning value.now)
         (⟦<Vec<(String, Note, Option<String>)> as Archive>⟧.flat value.now r)
         (S.state serializer.old) (S.state serializer.new)) }
-    ensures
-        same_value { IfOk result (λ r. ⟦<Vec<(String, Note, Option<String>)> as Archive>⟧.belongs
+    ensures same_value { IfOk result (λ r. ⟦<Vec<(String, Note, Option<String>)> as Archive>⟧.belongs
         value.now r) }
     ensures goes_on { GoesOn (S.state serializer.old) (S.state serializer.new) }
     ensures refused { IfErr result (IsRefused tuple3_string_note_option_string_definitions
@@ -498,8 +503,7 @@ fn serialize_note_table<S: Writer + Keys + ResolverAlloc>(
         (case 2 (value (⟦<Vec<(String, Note, Option<String>)> as Archive>⟧.meaning a0.now)
         no_value)) (case 2 (value (⟦<Vec<(String, Note, Option<String>)> as Archive>⟧.flat a0.now
         r.0) no_value)) (S.state serializer.old) (S.state serializer.new)) }
-    ensures
-        same_values { IfOk result (λ r. ⟦<Vec<(String, Note, Option<String>)> as Archive>⟧.belongs
+    ensures same_values { IfOk result (λ r. ⟦<Vec<(String, Note, Option<String>)> as Archive>⟧.belongs
         a0.now r.0 × Unit {0}) }
     ensures goes_on { GoesOn (S.state serializer.old) (S.state serializer.new) }
     ensures refused { IfErr result (IsRefused note_definitions note_shape
@@ -516,7 +520,10 @@ fn serialize_note_table<S: Writer + Keys + ResolverAlloc>(
 
 // Writes what a value owns.
 #[cycle(serialize_note)]
-fn serialize_whole_note<S: Writer + Keys + ResolverAlloc>(value: &Note, serializer: &mut S) -> Result<NoteResolver, Error>
+fn serialize_whole_note<S: Writer + Keys + ResolverAlloc>(
+    value: &Note,
+    serializer: &mut S,
+) -> Result<NoteResolver, Error>
     ensures serialized { IfOk result (λ r. Serialized note_definitions note_shape
         (⟦<Note as Archive>⟧.keys value.now) (⟦<Note as Archive>⟧.meaning value.now)
         (⟦<Note as Archive>⟧.flat value.now r) (S.state serializer.old) (S.state serializer.new)) }
@@ -545,7 +552,10 @@ fn serialize_whole_note<S: Writer + Keys + ResolverAlloc>(value: &Note, serializ
 // The same by a call, whose result has its room only while it lasts.
 #[cycle(serialize_note)]
 #[inline(always)]
-fn serialize_note<S: Writer + Keys + ResolverAlloc>(value: &Note, serializer: &mut S) -> Result<NoteResolver, Error>
+fn serialize_note<S: Writer + Keys + ResolverAlloc>(
+    value: &Note,
+    serializer: &mut S,
+) -> Result<NoteResolver, Error>
     ensures serialized { IfOk result (λ r. Serialized note_definitions note_shape
         (⟦<Note as Archive>⟧.keys value.now) (⟦<Note as Archive>⟧.meaning value.now)
         (⟦<Note as Archive>⟧.flat value.now r) (S.state serializer.old) (S.state serializer.new)) }
@@ -597,6 +607,16 @@ impl<S: Writer + Keys + ResolverAlloc> SerializeUnsized<S> for Note {
     }
 }
 
+// The tag of a value, which names its variant.
+#[inline(always)]
+fn tag_of_note(part: RawView<'_>) -> u8
+    requires { IsPartOf ⟦<ArchivedNote as ArchivePointee>⟧ part }
+    ensures tag { result ≡ part_tag part.entry }
+    ensures below { result < 3 }
+{
+    tag_of_choice::<ArchivedNote>(part)
+}
+
 // The part of a value that is `Table` with the index 0.
 #[inline(always)]
 fn part_0_of_note_table<'a>(part: RawView<'a>) -> RawView<'a>
@@ -614,7 +634,11 @@ fn part_0_of_note_table<'a>(part: RawView<'a>) -> RawView<'a>
 // Reads a tuple back, part by part.
 #[cycle(read_note)]
 #[inline(always)]
-fn read_tuple3_string_note_option_string<D: Entries>(alloc: Global, part: RawView<'_>, deserializer: &mut D) -> Result<(String, Note, Option<String>), Error>
+fn read_tuple3_string_note_option_string<D: Entries>(
+    alloc: Global,
+    part: RawView<'_>,
+    deserializer: &mut D,
+) -> Result<(String, Note, Option<String>), Error>
     requires { IsPartOf ⟦<Tuple3StringNoteOptionString as ArchivePointee>⟧ part }
     ensures read { IfOk result (λ t. ReadsPart ⟦<Tuple3StringNoteOptionString as ArchivePointee>⟧
         part D.Entries deserializer (tuple3_string_note_option_string_meaning t)
@@ -649,15 +673,17 @@ fn read_tuple3_string_note_option_string<D: Entries>(alloc: Global, part: RawVie
 // Reads a vector back.
 #[cycle(read_note)]
 #[inline(always)]
-fn read_vec_tuple3_string_note_option_string<D: Entries>(alloc: Global, part: RawView<'_>, deserializer: &mut D) -> Result<Vec<(String, Note, Option<String>)>, Error>
+fn read_vec_tuple3_string_note_option_string<D: Entries>(
+    alloc: Global,
+    part: RawView<'_>,
+    deserializer: &mut D,
+) -> Result<Vec<(String, Note, Option<String>)>, Error>
     requires { IsPartOf ⟦<ArchivedVec<Tuple3StringNoteOptionString> as ArchivePointee>⟧ part }
-    ensures
-        read { IfOk result
+    ensures read { IfOk result
         (λ t. ReadsPart ⟦<ArchivedVec<Tuple3StringNoteOptionString> as ArchivePointee>⟧ part
         D.Entries deserializer (list (each_meaning tuple3_string_note_option_string_meaning
         t.items)) (each_keys tuple3_string_note_option_string_keys t.items)) }
-    ensures
-        refused { IfErr result
+    ensures refused { IfErr result
         (RefusesPart ⟦<ArchivedVec<Tuple3StringNoteOptionString> as ArchivePointee>⟧ part D.Entries
         deserializer) }
 {
@@ -665,7 +691,11 @@ fn read_vec_tuple3_string_note_option_string<D: Entries>(alloc: Global, part: Ra
     let list = before_vec(view);
     let mut items = Vec::with_capacity(alloc, list.len())?;
     for index in 0..list.len() {
-        let item = match read_tuple3_string_note_option_string(alloc, list.index(index).part(), deserializer) {
+        let item = match read_tuple3_string_note_option_string(
+            alloc,
+            list.index(index).part(),
+            deserializer,
+        ) {
             Ok(item) => item,
             Err(error) => return Err(error),
         };
@@ -676,7 +706,11 @@ fn read_vec_tuple3_string_note_option_string<D: Entries>(alloc: Global, part: Ra
 
 // Reads `Text` back.
 #[inline(always)]
-fn read_note_text<D: Entries>(alloc: Global, part: RawView<'_>, deserializer: &mut D) -> Result<Note, Error>
+fn read_note_text<D: Entries>(
+    alloc: Global,
+    part: RawView<'_>,
+    deserializer: &mut D,
+) -> Result<Note, Error>
     requires viewed { IsPartOf ⟦<ArchivedNote as ArchivePointee>⟧ part }
     requires tag { part_tag part ≡ 0 }
     ensures read { IfOk result (Read ⟦<ArchivedNote as ArchivePointee>⟧ part D.Entries deserializer
@@ -694,7 +728,11 @@ fn read_note_text<D: Entries>(alloc: Global, part: RawView<'_>, deserializer: &m
 
 // Reads `Work` back.
 #[inline(always)]
-fn read_note_work<D: Entries>(alloc: Global, part: RawView<'_>, deserializer: &mut D) -> Result<Note, Error>
+fn read_note_work<D: Entries>(
+    alloc: Global,
+    part: RawView<'_>,
+    deserializer: &mut D,
+) -> Result<Note, Error>
     requires viewed { IsPartOf ⟦<ArchivedNote as ArchivePointee>⟧ part }
     requires tag { part_tag part ≡ 1 }
     ensures read { IfOk result (Read ⟦<ArchivedNote as ArchivePointee>⟧ part D.Entries deserializer
@@ -717,7 +755,11 @@ fn read_note_work<D: Entries>(alloc: Global, part: RawView<'_>, deserializer: &m
 // Reads `Table` back.
 #[cycle(read_note)]
 #[inline(never)]
-fn read_note_table<D: Entries>(alloc: Global, part: RawView<'_>, deserializer: &mut D) -> Result<Note, Error>
+fn read_note_table<D: Entries>(
+    alloc: Global,
+    part: RawView<'_>,
+    deserializer: &mut D,
+) -> Result<Note, Error>
     requires viewed { IsPartOf ⟦<ArchivedNote as ArchivePointee>⟧ part }
     requires tag { part_tag part ≡ 2 }
     ensures read { IfOk result (Read ⟦<ArchivedNote as ArchivePointee>⟧ part D.Entries deserializer
@@ -736,14 +778,18 @@ fn read_note_table<D: Entries>(alloc: Global, part: RawView<'_>, deserializer: &
 // Reads a value back.
 #[cycle(read_note)]
 #[inline(always)]
-fn read_note<D: Entries>(alloc: Global, part: RawView<'_>, deserializer: &mut D) -> Result<Note, Error>
+fn read_note<D: Entries>(
+    alloc: Global,
+    part: RawView<'_>,
+    deserializer: &mut D,
+) -> Result<Note, Error>
     requires { IsPartOf ⟦<ArchivedNote as ArchivePointee>⟧ part }
     ensures read { IfOk result (Read ⟦<ArchivedNote as ArchivePointee>⟧ part D.Entries deserializer
         ⟦<Note as Archive>⟧) }
     ensures refused { IfErr result (RefusesPart ⟦<ArchivedNote as ArchivePointee>⟧ part D.Entries
         deserializer) }
 {
-    match tag_of_choice::<ArchivedNote>(part) {
+    match tag_of_note(part) {
         0 => read_note_text(alloc, part, deserializer),
         1 => read_note_work(alloc, part, deserializer),
         _ => read_note_table(alloc, part, deserializer),
@@ -774,7 +820,12 @@ pub enum ViewOfNote<'a> {
     Work(Ref<'a, ArchivedSortedMap<ArchivedU16, i8>>),
     /// Notes with names, and who wrote each, if that is known.
     Table(
-        Ref<'a, ArchivedVec<ArchivedTuple3<ArchivedString, ArchivedNote, ArchivedOption<ArchivedString>>>>,
+        Ref<
+            'a,
+            ArchivedVec<
+                ArchivedTuple3<ArchivedString, ArchivedNote, ArchivedOption<ArchivedString>>,
+            >,
+        >,
     ),
 }
 
@@ -811,7 +862,13 @@ impl<'a> NoteView<'a> for Ref<'a, ArchivedNote> {
             _ => {
                 let a0 = view_of_payload::<
                     ArchivedNote,
-                    ArchivedVec<ArchivedTuple3<ArchivedString, ArchivedNote, ArchivedOption<ArchivedString>>>,
+                    ArchivedVec<
+                        ArchivedTuple3<
+                            ArchivedString,
+                            ArchivedNote,
+                            ArchivedOption<ArchivedString>,
+                        >,
+                    >,
                 >(self, 2, 0, 4);
                 ViewOfNote::Table(a0)
             }
@@ -840,7 +897,10 @@ pub trait NoteSeal<'a> {
     /// The field `0` of `Table`.
     fn table_0_mut(
         self,
-    ) -> Seal<'a, ArchivedVec<ArchivedTuple3<ArchivedString, ArchivedNote, ArchivedOption<ArchivedString>>>>
+    ) -> Seal<
+        'a,
+        ArchivedVec<ArchivedTuple3<ArchivedString, ArchivedNote, ArchivedOption<ArchivedString>>>,
+    >
         requires come_to { sealed self }
         requires tag { tag self ≡ 2 };
 }
@@ -872,7 +932,10 @@ impl<'a> NoteSeal<'a> for Seal<'a, ArchivedNote> {
 
     fn table_0_mut(
         self,
-    ) -> Seal<'a, ArchivedVec<ArchivedTuple3<ArchivedString, ArchivedNote, ArchivedOption<ArchivedString>>>>
+    ) -> Seal<
+        'a,
+        ArchivedVec<ArchivedTuple3<ArchivedString, ArchivedNote, ArchivedOption<ArchivedString>>>,
+    >
         requires come_to { IsSealOf note_definitions (one ⟦<ArchivedNote as Portable>⟧.shape) self }
         requires tag { seal_tag self ≡ 2 }
         ensures { SealsPart note_definitions (one ⟦<ArchivedNote as Portable>⟧.shape)
@@ -882,7 +945,9 @@ impl<'a> NoteSeal<'a> for Seal<'a, ArchivedNote> {
     {
         seal_of_payload::<
             ArchivedNote,
-            ArchivedVec<ArchivedTuple3<ArchivedString, ArchivedNote, ArchivedOption<ArchivedString>>>,
+            ArchivedVec<
+                ArchivedTuple3<ArchivedString, ArchivedNote, ArchivedOption<ArchivedString>>,
+            >,
         >(self, 2, 0, 4)
     }
 }

@@ -43,7 +43,7 @@ ghost use Rattle.archive_core.specs.Writing.{Resolves, ZeroedPlace};
 ghost use Rattle.archive_core.specs.Written.{GoesOn};
 ghost use Rattle.recursive_kinds.specs.RoadShape.{road_definitions, road_detour_parts, road_has_layout, road_has_variants, road_is_align, road_layout, road_name, road_no_others, road_shape, road_variant_definitions, road_variants, road_way_parts};
 ghost use Rattle.std.proofs.Common.{lit≤};
-ghost use Rattle.std.specs.Prelude.{IfErr, IfNone, IfOk, IfSome, List, None, OnOk, Some, [], length, refl, ℕ, ⊤, ◌++◌, ◌+◌, ◌≡◌, ◌≤◌};
+ghost use Rattle.std.specs.Prelude.{IfErr, IfNone, IfOk, IfSome, List, None, OnOk, Some, [], length, refl, ℕ, ⊤, ◌++◌, ◌+◌, ◌<◌, ◌≡◌, ◌≤◌};
 
 use archive_core::error::Error;
 use archive_core::fields::resolve_2;
@@ -290,7 +290,11 @@ impl Archive for SharedRoadAt {
             (⟦<Self as Archive>⟧.flat self.now resolver) result }
     {
         let Place { bytes, pos, .. } = place;
-        ArchivedRc::<ArchivedRoad, RcFlavor>::resolve_from_ref(self, resolver, Place::new(pos, bytes))
+        ArchivedRc::<ArchivedRoad, RcFlavor>::resolve_from_ref(
+            self,
+            resolver,
+            Place::new(pos, bytes),
+        )
     }
 
     #[inline(always)]
@@ -427,7 +431,11 @@ impl Archive for WeakRoadAt {
     {
         let Place { bytes, pos, .. } = place;
         let none: Option<&WeakRoadAt> = None;
-        ArchivedRcWeak::<ArchivedRoad, RcFlavor>::resolve_from_ref(none, resolver, Place::new(pos, bytes))
+        ArchivedRcWeak::<ArchivedRoad, RcFlavor>::resolve_from_ref(
+            none,
+            resolver,
+            Place::new(pos, bytes),
+        )
     }
 
     #[inline(always)]
@@ -554,7 +562,10 @@ impl Archive for Road {
 
 // Writes what a shared pointer leads to, if its key is unknown.
 #[cycle(serialize_road)]
-fn serialize_shared_road<S: Sharing + Writer + ResolverAlloc>(value: &Shared<Road>, serializer: &mut S) -> Result<RcResolver, Error>
+fn serialize_shared_road<S: Sharing + Writer + ResolverAlloc>(
+    value: &Shared<Road>,
+    serializer: &mut S,
+) -> Result<RcResolver, Error>
     ensures serialized { IfOk result (λ r. Serialized road_definitions
         (shared rc_flavor (one road_shape)) (⟦<Shared<Road> as Archive>⟧.keys value.now)
         (⟦<Shared<Road> as Archive>⟧.meaning value.now)
@@ -588,7 +599,10 @@ fn serialize_shared_road<S: Sharing + Writer + ResolverAlloc>(value: &Shared<Roa
 
 // Writes what an option of a shared pointer leads to, if its key is unknown.
 #[cycle(serialize_road)]
-fn serialize_option_shared_road<S: Sharing + Writer + ResolverAlloc>(value: &Option<Shared<Road>>, serializer: &mut S) -> Result<Option<RcResolver>, Error>
+fn serialize_option_shared_road<S: Sharing + Writer + ResolverAlloc>(
+    value: &Option<Shared<Road>>,
+    serializer: &mut S,
+) -> Result<Option<RcResolver>, Error>
     ensures serialized { IfOk result (λ r. Serialized road_definitions
         (option_shape (shared rc_flavor (one road_shape)))
         (⟦<Option<Shared<Road>> as Archive>⟧.keys value.now)
@@ -630,7 +644,10 @@ fn serialize_option_shared_road<S: Sharing + Writer + ResolverAlloc>(value: &Opt
 
 // Writes what a weak pointer leads to, if its key is unknown.
 #[cycle(serialize_road)]
-fn serialize_weak_shared_road<S: Sharing + Writer + ResolverAlloc>(value: &WeakShared<Road>, serializer: &mut S) -> Result<RcWeakResolver, Error>
+fn serialize_weak_shared_road<S: Sharing + Writer + ResolverAlloc>(
+    value: &WeakShared<Road>,
+    serializer: &mut S,
+) -> Result<RcWeakResolver, Error>
     ensures serialized { IfOk result (λ r. Serialized road_definitions
         (weak rc_flavor (one road_shape)) (⟦<WeakShared<Road> as Archive>⟧.keys value.now)
         (⟦<WeakShared<Road> as Archive>⟧.meaning value.now)
@@ -703,7 +720,10 @@ fn serialize_road_way<S: Sharing + Writer + ResolverAlloc>(
 
 // Writes what a value owns.
 #[cycle(serialize_road)]
-fn serialize_whole_road<S: Sharing + Writer + ResolverAlloc>(value: &Road, serializer: &mut S) -> Result<RoadResolver, Error>
+fn serialize_whole_road<S: Sharing + Writer + ResolverAlloc>(
+    value: &Road,
+    serializer: &mut S,
+) -> Result<RoadResolver, Error>
     ensures serialized { IfOk result (λ r. Serialized road_definitions road_shape
         (⟦<Road as Archive>⟧.keys value.now) (⟦<Road as Archive>⟧.meaning value.now)
         (⟦<Road as Archive>⟧.flat value.now r) (S.state serializer.old) (S.state serializer.new)) }
@@ -735,7 +755,10 @@ fn serialize_whole_road<S: Sharing + Writer + ResolverAlloc>(value: &Road, seria
 // The same by a call, whose result has its room only while it lasts.
 #[cycle(serialize_road)]
 #[inline(always)]
-fn serialize_road<S: Sharing + Writer + ResolverAlloc>(value: &Road, serializer: &mut S) -> Result<RoadResolver, Error>
+fn serialize_road<S: Sharing + Writer + ResolverAlloc>(
+    value: &Road,
+    serializer: &mut S,
+) -> Result<RoadResolver, Error>
     ensures serialized { IfOk result (λ r. Serialized road_definitions road_shape
         (⟦<Road as Archive>⟧.keys value.now) (⟦<Road as Archive>⟧.meaning value.now)
         (⟦<Road as Archive>⟧.flat value.now r) (S.state serializer.old) (S.state serializer.new)) }
@@ -787,6 +810,16 @@ impl<S: Sharing + Writer + ResolverAlloc> SerializeUnsized<S> for Road {
     }
 }
 
+// The tag of a value, which names its variant.
+#[inline(always)]
+fn tag_of_road(part: RawView<'_>) -> u8
+    requires { IsPartOf ⟦<ArchivedRoad as ArchivePointee>⟧ part }
+    ensures tag { result ≡ part_tag part.entry }
+    ensures below { result < 2 }
+{
+    tag_of_choice::<ArchivedRoad>(part)
+}
+
 // The part of a value that is `Way` with the index 0.
 #[inline(always)]
 fn part_0_of_road_way<'a>(part: RawView<'a>) -> RawView<'a>
@@ -808,8 +841,7 @@ fn part_1_of_road_way<'a>(part: RawView<'a>) -> RawView<'a>
     ensures buffer { result.bytes.now ≡ part.entry.bytes.now }
     ensures position { result.pos ≡ part.entry.pos + 4 }
     ensures length { result.len ≡ 0 }
-    ensures
-        viewed { IsPartOf ⟦<ArchivedOption<ArchivedRc<ArchivedRoad, RcFlavor>> as ArchivePointee>⟧
+    ensures viewed { IsPartOf ⟦<ArchivedOption<ArchivedRc<ArchivedRoad, RcFlavor>> as ArchivePointee>⟧
         result }
 {
     part_of_variant::<ArchivedRoad, ArchivedOption<ArchivedRc<ArchivedRoad, RcFlavor>>>(
@@ -845,12 +877,16 @@ fn part_1_of_road_detour<'a>(part: RawView<'a>) -> RawView<'a>
 
 // Reads a shared value back.
 #[cycle(read_road)]
-fn read_shared_road<D: Pooling<Shared<Road>>>(alloc: Global, part: RawView<'_>, levels: usize, deserializer: &mut D) -> Result<Shared<Road>, Error>
+fn read_shared_road<D: Pooling<Shared<Road>>>(
+    alloc: Global,
+    part: RawView<'_>,
+    levels: usize,
+    deserializer: &mut D,
+) -> Result<Shared<Road>, Error>
     requires { IsPartOf ⟦<ArchivedRc<ArchivedRoad, RcFlavor> as ArchivePointee>⟧ part }
     ensures read { IfOk result (Read ⟦<ArchivedRc<ArchivedRoad, RcFlavor> as ArchivePointee>⟧ part
         D.Entries deserializer ⟦<Shared<Road> as Archive>⟧) }
-    ensures
-        refused { IfErr result (RefusesPart ⟦<ArchivedRc<ArchivedRoad, RcFlavor> as ArchivePointee>⟧
+    ensures refused { IfErr result (RefusesPart ⟦<ArchivedRc<ArchivedRoad, RcFlavor> as ArchivePointee>⟧
         part D.Entries deserializer) }
 {
     let known = match begin_reading::<ArchivedRoad, RcFlavor, Shared<Road>, D>(part, deserializer) {
@@ -865,22 +901,30 @@ fn read_shared_road<D: Pooling<Shared<Road>>>(alloc: Global, part: RawView<'_>, 
                 Ok(value) => value,
                 Err(error) => return Err(error),
             };
-            finish_reading::<ArchivedRoad, RcFlavor, Shared<Road>, D>(alloc, part, value, deserializer)
+            finish_reading::<ArchivedRoad, RcFlavor, Shared<Road>, D>(
+                alloc,
+                part,
+                value,
+                deserializer,
+            )
         }
     }
 }
 
 // Reads an option back.
 #[cycle(read_road)]
-fn read_option_shared_road<D: Pooling<Shared<Road>>>(alloc: Global, part: RawView<'_>, levels: usize, deserializer: &mut D) -> Result<Option<Shared<Road>>, Error>
+fn read_option_shared_road<D: Pooling<Shared<Road>>>(
+    alloc: Global,
+    part: RawView<'_>,
+    levels: usize,
+    deserializer: &mut D,
+) -> Result<Option<Shared<Road>>, Error>
     requires { IsPartOf ⟦<ArchivedOption<ArchivedRc<ArchivedRoad, RcFlavor>> as ArchivePointee>⟧
         part }
-    ensures
-        read { IfOk result
+    ensures read { IfOk result
         (Read ⟦<ArchivedOption<ArchivedRc<ArchivedRoad, RcFlavor>> as ArchivePointee>⟧ part
         D.Entries deserializer ⟦<Option<Shared<Road>> as Archive>⟧) }
-    ensures
-        refused { IfErr result
+    ensures refused { IfErr result
         (RefusesPart ⟦<ArchivedOption<ArchivedRc<ArchivedRoad, RcFlavor>> as ArchivePointee>⟧ part
         D.Entries deserializer) }
 {
@@ -896,12 +940,16 @@ fn read_option_shared_road<D: Pooling<Shared<Road>>>(alloc: Global, part: RawVie
 
 // Reads a weak pointer back.
 #[cycle(read_road)]
-fn read_weak_shared_road<D: Pooling<Shared<Road>>>(alloc: Global, part: RawView<'_>, levels: usize, deserializer: &mut D) -> Result<WeakShared<Road>, Error>
+fn read_weak_shared_road<D: Pooling<Shared<Road>>>(
+    alloc: Global,
+    part: RawView<'_>,
+    levels: usize,
+    deserializer: &mut D,
+) -> Result<WeakShared<Road>, Error>
     requires { IsPartOf ⟦<ArchivedRcWeak<ArchivedRoad, RcFlavor> as ArchivePointee>⟧ part }
     ensures read { IfOk result (Read ⟦<ArchivedRcWeak<ArchivedRoad, RcFlavor> as ArchivePointee>⟧
         part D.Entries deserializer ⟦<WeakShared<Road> as Archive>⟧) }
-    ensures
-        refused { IfErr result
+    ensures refused { IfErr result
         (RefusesPart ⟦<ArchivedRcWeak<ArchivedRoad, RcFlavor> as ArchivePointee>⟧ part D.Entries
         deserializer) }
 {
@@ -934,7 +982,12 @@ fn read_weak_shared_road<D: Pooling<Shared<Road>>>(alloc: Global, part: RawView<
 
 // Reads `Way` back.
 #[cycle(read_road)]
-fn read_road_way<D: Pooling<Shared<Road>>>(alloc: Global, part: RawView<'_>, levels: usize, deserializer: &mut D) -> Result<Road, Error>
+fn read_road_way<D: Pooling<Shared<Road>>>(
+    alloc: Global,
+    part: RawView<'_>,
+    levels: usize,
+    deserializer: &mut D,
+) -> Result<Road, Error>
     requires viewed { IsPartOf ⟦<ArchivedRoad as ArchivePointee>⟧ part }
     requires tag { part_tag part ≡ 0 }
     ensures read { IfOk result (Read ⟦<ArchivedRoad as ArchivePointee>⟧ part D.Entries deserializer
@@ -957,7 +1010,12 @@ fn read_road_way<D: Pooling<Shared<Road>>>(alloc: Global, part: RawView<'_>, lev
 
 // Reads `Detour` back.
 #[cycle(read_road)]
-fn read_road_detour<D: Pooling<Shared<Road>>>(alloc: Global, part: RawView<'_>, levels: usize, deserializer: &mut D) -> Result<Road, Error>
+fn read_road_detour<D: Pooling<Shared<Road>>>(
+    alloc: Global,
+    part: RawView<'_>,
+    levels: usize,
+    deserializer: &mut D,
+) -> Result<Road, Error>
     requires viewed { IsPartOf ⟦<ArchivedRoad as ArchivePointee>⟧ part }
     requires tag { part_tag part ≡ 1 }
     ensures read { IfOk result (Read ⟦<ArchivedRoad as ArchivePointee>⟧ part D.Entries deserializer
@@ -980,7 +1038,12 @@ fn read_road_detour<D: Pooling<Shared<Road>>>(alloc: Global, part: RawView<'_>, 
 
 // Reads a value back.
 #[cycle(read_road)]
-fn read_road<D: Pooling<Shared<Road>>>(alloc: Global, part: RawView<'_>, levels: usize, deserializer: &mut D) -> Result<Road, Error>
+fn read_road<D: Pooling<Shared<Road>>>(
+    alloc: Global,
+    part: RawView<'_>,
+    levels: usize,
+    deserializer: &mut D,
+) -> Result<Road, Error>
     requires { IsPartOf ⟦<ArchivedRoad as ArchivePointee>⟧ part }
     ensures read { IfOk result (Read ⟦<ArchivedRoad as ArchivePointee>⟧ part D.Entries deserializer
         ⟦<Road as Archive>⟧) }
@@ -991,7 +1054,7 @@ fn read_road<D: Pooling<Shared<Road>>>(alloc: Global, part: RawView<'_>, levels:
         return Err(Error::OutOfMemory);
     }
     let levels = levels - 1;
-    match tag_of_choice::<ArchivedRoad>(part) {
+    match tag_of_road(part) {
         0 => read_road_way(alloc, part, levels, deserializer),
         _ => read_road_detour(alloc, part, levels, deserializer),
     }

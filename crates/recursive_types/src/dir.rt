@@ -44,7 +44,7 @@ ghost use Rattle.archive_core.specs.Writing.{Resolves, ZeroedPlace};
 ghost use Rattle.archive_core.specs.Written.{GoesOn};
 ghost use Rattle.recursive_types.specs.DirShape.{dir_definitions, dir_has_layout, dir_has_parts, dir_is_align, dir_layout, dir_name, dir_no_others, dir_parts, dir_shape, dir_stands_for, entry_definitions, entry_file_parts, entry_has_layout, entry_has_variants, entry_is_align, entry_layout, entry_name, entry_no_others, entry_shape, entry_stands_for, entry_sub_parts, entry_variant_definitions, entry_variants};
 ghost use Rattle.std.proofs.Common.{lit≤};
-ghost use Rattle.std.specs.Prelude.{IfErr, IfOk, None, OnOk, Some, [], length, refl, ℕ, ◌++◌, ◌+◌, ◌≡◌, ◌≤◌};
+ghost use Rattle.std.specs.Prelude.{IfErr, IfOk, None, OnOk, Some, [], length, refl, ℕ, ◌++◌, ◌+◌, ◌<◌, ◌≡◌, ◌≤◌};
 
 use archive_core::boxed::{ArchivedBox, BoxResolver};
 use archive_core::error::Error;
@@ -220,7 +220,10 @@ impl Archive for Dir {
 
 // Writes what each of the values owns, in order.
 #[cycle(serialize_dir)]
-fn serialize_each_entry<S: Writer + Keys + ResolverAlloc>(values: &[Entry], serializer: &mut S) -> Result<Vec<<Entry as Archive>::Resolver, S::Alloc>, Error>
+fn serialize_each_entry<S: Writer + Keys + ResolverAlloc>(
+    values: &[Entry],
+    serializer: &mut S,
+) -> Result<Vec<<Entry as Archive>::Resolver, S::Alloc>, Error>
     ensures serialized { IfOk result (λ rs. SerializedRun dir_definitions entry_shape
         (length values.now) (each_keys ⟦<Entry as Archive>⟧.keys values.now)
         (each_meaning ⟦<Entry as Archive>⟧.meaning values.now)
@@ -248,7 +251,10 @@ fn serialize_each_entry<S: Writer + Keys + ResolverAlloc>(values: &[Entry], seri
 
 // Writes what a vector owns.
 #[cycle(serialize_dir)]
-fn serialize_vec_entry<S: Writer + Keys + ResolverAlloc>(value: &Vec<Entry>, serializer: &mut S) -> Result<VecResolver, Error>
+fn serialize_vec_entry<S: Writer + Keys + ResolverAlloc>(
+    value: &Vec<Entry>,
+    serializer: &mut S,
+) -> Result<VecResolver, Error>
     ensures serialized { IfOk result (λ r. Serialized dir_definitions (vec entry_shape)
         (⟦<Vec<Entry> as Archive>⟧.keys value.now) (⟦<Vec<Entry> as Archive>⟧.meaning value.now)
         (⟦<Vec<Entry> as Archive>⟧.flat value.now r) (S.state serializer.old)
@@ -275,7 +281,10 @@ fn serialize_vec_entry<S: Writer + Keys + ResolverAlloc>(value: &Vec<Entry>, ser
 
 // Writes what a value owns, part by part.
 #[cycle(serialize_dir)]
-fn serialize_whole_dir<S: Writer + Keys + ResolverAlloc>(value: &Dir, serializer: &mut S) -> Result<DirResolver, Error>
+fn serialize_whole_dir<S: Writer + Keys + ResolverAlloc>(
+    value: &Dir,
+    serializer: &mut S,
+) -> Result<DirResolver, Error>
     ensures serialized { IfOk result (λ r. Serialized dir_definitions dir_shape
         (⟦<Dir as Archive>⟧.keys value.now) (⟦<Dir as Archive>⟧.meaning value.now)
         (⟦<Dir as Archive>⟧.flat value.now r) (S.state serializer.old) (S.state serializer.new)) }
@@ -293,13 +302,18 @@ fn serialize_whole_dir<S: Writer + Keys + ResolverAlloc>(value: &Dir, serializer
         Ok(a1) => a1,
         Err(error) => return Err(handed_on(error)),
     };
-    Ok(DirResolver { kept: (a0, (a1, ())) })
+    Ok(DirResolver {
+        kept: (a0, (a1, ())),
+    })
 }
 
 // The same by a call, whose result has its room only while it lasts.
 #[cycle(serialize_dir)]
 #[inline(always)]
-fn serialize_dir<S: Writer + Keys + ResolverAlloc>(value: &Dir, serializer: &mut S) -> Result<DirResolver, Error>
+fn serialize_dir<S: Writer + Keys + ResolverAlloc>(
+    value: &Dir,
+    serializer: &mut S,
+) -> Result<DirResolver, Error>
     ensures serialized { IfOk result (λ r. Serialized dir_definitions dir_shape
         (⟦<Dir as Archive>⟧.keys value.now) (⟦<Dir as Archive>⟧.meaning value.now)
         (⟦<Dir as Archive>⟧.flat value.now r) (S.state serializer.old) (S.state serializer.new)) }
@@ -354,7 +368,11 @@ impl<S: Writer + Keys + ResolverAlloc> SerializeUnsized<S> for Dir {
 // Reads a vector back. One with no elements takes no call, whose result would go through memory.
 #[cycle(read_dir)]
 #[inline(always)]
-fn read_vec_entry<D: Entries>(alloc: Global, part: RawView<'_>, deserializer: &mut D) -> Result<Vec<Entry>, Error>
+fn read_vec_entry<D: Entries>(
+    alloc: Global,
+    part: RawView<'_>,
+    deserializer: &mut D,
+) -> Result<Vec<Entry>, Error>
     requires { IsPartOf ⟦<ArchivedVec<ArchivedEntry> as ArchivePointee>⟧ part }
     ensures read { IfOk result (Read ⟦<ArchivedVec<ArchivedEntry> as ArchivePointee>⟧ part D.Entries
         deserializer ⟦<Vec<Entry> as Archive>⟧) }
@@ -371,7 +389,11 @@ fn read_vec_entry<D: Entries>(alloc: Global, part: RawView<'_>, deserializer: &m
 // Reads the elements of a vector back.
 #[cycle(read_dir)]
 #[inline(always)]
-fn read_each_entry<D: Entries>(alloc: Global, part: RawView<'_>, deserializer: &mut D) -> Result<Vec<Entry>, Error>
+fn read_each_entry<D: Entries>(
+    alloc: Global,
+    part: RawView<'_>,
+    deserializer: &mut D,
+) -> Result<Vec<Entry>, Error>
     requires { IsPartOf ⟦<ArchivedVec<ArchivedEntry> as ArchivePointee>⟧ part }
     ensures read { IfOk result (Read ⟦<ArchivedVec<ArchivedEntry> as ArchivePointee>⟧ part D.Entries
         deserializer ⟦<Vec<Entry> as Archive>⟧) }
@@ -393,7 +415,11 @@ fn read_each_entry<D: Entries>(alloc: Global, part: RawView<'_>, deserializer: &
 
 // Reads a value back, part by part.
 #[cycle(read_dir)]
-fn read_dir<D: Entries>(alloc: Global, part: RawView<'_>, deserializer: &mut D) -> Result<Dir, Error>
+fn read_dir<D: Entries>(
+    alloc: Global,
+    part: RawView<'_>,
+    deserializer: &mut D,
+) -> Result<Dir, Error>
     requires { IsPartOf ⟦<ArchivedDir as ArchivePointee>⟧ part }
     ensures read { IfOk result (Read ⟦<ArchivedDir as ArchivePointee>⟧ part D.Entries deserializer
         ⟦<Dir as Archive>⟧) }
@@ -711,7 +737,10 @@ impl Archive for Entry {
 
 // Writes what a box owns.
 #[cycle(serialize_dir)]
-fn serialize_box_dir<S: Writer + Keys + ResolverAlloc>(value: &Box<Dir>, serializer: &mut S) -> Result<BoxResolver, Error>
+fn serialize_box_dir<S: Writer + Keys + ResolverAlloc>(
+    value: &Box<Dir>,
+    serializer: &mut S,
+) -> Result<BoxResolver, Error>
     ensures serialized { IfOk result (λ r. Serialized entry_definitions (boxed (one dir_shape))
         (⟦<Box<Dir> as Archive>⟧.keys value.now) (⟦<Box<Dir> as Archive>⟧.meaning value.now)
         (⟦<Box<Dir> as Archive>⟧.flat value.now r) (S.state serializer.old)
@@ -782,7 +811,10 @@ fn serialize_entry_sub<S: Writer + Keys + ResolverAlloc>(
 
 // Writes what a value owns.
 #[cycle(serialize_dir)]
-fn serialize_whole_entry<S: Writer + Keys + ResolverAlloc>(value: &Entry, serializer: &mut S) -> Result<EntryResolver, Error>
+fn serialize_whole_entry<S: Writer + Keys + ResolverAlloc>(
+    value: &Entry,
+    serializer: &mut S,
+) -> Result<EntryResolver, Error>
     ensures serialized { IfOk result (λ r. Serialized entry_definitions entry_shape
         (⟦<Entry as Archive>⟧.keys value.now) (⟦<Entry as Archive>⟧.meaning value.now)
         (⟦<Entry as Archive>⟧.flat value.now r) (S.state serializer.old) (S.state serializer.new)) }
@@ -807,7 +839,10 @@ fn serialize_whole_entry<S: Writer + Keys + ResolverAlloc>(value: &Entry, serial
 // The same by a call, whose result has its room only while it lasts.
 #[cycle(serialize_dir)]
 #[inline(always)]
-fn serialize_entry<S: Writer + Keys + ResolverAlloc>(value: &Entry, serializer: &mut S) -> Result<EntryResolver, Error>
+fn serialize_entry<S: Writer + Keys + ResolverAlloc>(
+    value: &Entry,
+    serializer: &mut S,
+) -> Result<EntryResolver, Error>
     ensures serialized { IfOk result (λ r. Serialized entry_definitions entry_shape
         (⟦<Entry as Archive>⟧.keys value.now) (⟦<Entry as Archive>⟧.meaning value.now)
         (⟦<Entry as Archive>⟧.flat value.now r) (S.state serializer.old) (S.state serializer.new)) }
@@ -859,6 +894,16 @@ impl<S: Writer + Keys + ResolverAlloc> SerializeUnsized<S> for Entry {
     }
 }
 
+// The tag of a value, which names its variant.
+#[inline(always)]
+fn tag_of_entry(part: RawView<'_>) -> u8
+    requires { IsPartOf ⟦<ArchivedEntry as ArchivePointee>⟧ part }
+    ensures tag { result ≡ part_tag part.entry }
+    ensures below { result < 2 }
+{
+    tag_of_choice::<ArchivedEntry>(part)
+}
+
 // The part of a value that is `Sub` with the index 0.
 #[inline(always)]
 fn part_0_of_entry_sub<'a>(part: RawView<'a>) -> RawView<'a>
@@ -875,7 +920,11 @@ fn part_0_of_entry_sub<'a>(part: RawView<'a>) -> RawView<'a>
 // Reads a box back.
 #[cycle(read_dir)]
 #[inline(always)]
-fn read_box_dir<D: Entries>(alloc: Global, part: RawView<'_>, deserializer: &mut D) -> Result<Box<Dir>, Error>
+fn read_box_dir<D: Entries>(
+    alloc: Global,
+    part: RawView<'_>,
+    deserializer: &mut D,
+) -> Result<Box<Dir>, Error>
     requires { IsPartOf ⟦<ArchivedBox<ArchivedDir> as ArchivePointee>⟧ part }
     ensures read { IfOk result (Read ⟦<ArchivedBox<ArchivedDir> as ArchivePointee>⟧ part D.Entries
         deserializer ⟦<Box<Dir> as Archive>⟧) }
@@ -893,7 +942,11 @@ fn read_box_dir<D: Entries>(alloc: Global, part: RawView<'_>, deserializer: &mut
 
 // Reads `File` back.
 #[inline(always)]
-fn read_entry_file<D: Entries>(alloc: Global, part: RawView<'_>, deserializer: &mut D) -> Result<Entry, Error>
+fn read_entry_file<D: Entries>(
+    alloc: Global,
+    part: RawView<'_>,
+    deserializer: &mut D,
+) -> Result<Entry, Error>
     requires viewed { IsPartOf ⟦<ArchivedEntry as ArchivePointee>⟧ part }
     requires tag { part_tag part ≡ 0 }
     ensures read { IfOk result (Read ⟦<ArchivedEntry as ArchivePointee>⟧ part D.Entries deserializer
@@ -911,7 +964,11 @@ fn read_entry_file<D: Entries>(alloc: Global, part: RawView<'_>, deserializer: &
 
 // Reads `Sub` back.
 #[cycle(read_dir)]
-fn read_entry_sub<D: Entries>(alloc: Global, part: RawView<'_>, deserializer: &mut D) -> Result<Entry, Error>
+fn read_entry_sub<D: Entries>(
+    alloc: Global,
+    part: RawView<'_>,
+    deserializer: &mut D,
+) -> Result<Entry, Error>
     requires viewed { IsPartOf ⟦<ArchivedEntry as ArchivePointee>⟧ part }
     requires tag { part_tag part ≡ 1 }
     ensures read { IfOk result (Read ⟦<ArchivedEntry as ArchivePointee>⟧ part D.Entries deserializer
@@ -930,14 +987,18 @@ fn read_entry_sub<D: Entries>(alloc: Global, part: RawView<'_>, deserializer: &m
 // Reads a value back.
 #[cycle(read_dir)]
 #[inline(always)]
-fn read_entry<D: Entries>(alloc: Global, part: RawView<'_>, deserializer: &mut D) -> Result<Entry, Error>
+fn read_entry<D: Entries>(
+    alloc: Global,
+    part: RawView<'_>,
+    deserializer: &mut D,
+) -> Result<Entry, Error>
     requires { IsPartOf ⟦<ArchivedEntry as ArchivePointee>⟧ part }
     ensures read { IfOk result (Read ⟦<ArchivedEntry as ArchivePointee>⟧ part D.Entries deserializer
         ⟦<Entry as Archive>⟧) }
     ensures refused { IfErr result (RefusesPart ⟦<ArchivedEntry as ArchivePointee>⟧ part D.Entries
         deserializer) }
 {
-    match tag_of_choice::<ArchivedEntry>(part) {
+    match tag_of_entry(part) {
         0 => read_entry_file(alloc, part, deserializer),
         _ => read_entry_sub(alloc, part, deserializer),
     }

@@ -33,7 +33,7 @@ ghost use Rattle.archive_core.specs.Writing.{Resolves, ZeroedPlace};
 ghost use Rattle.archive_core.specs.Written.{GoesOn};
 ghost use Rattle.recursive_types.specs.ExprShape.{expr_add_parts, expr_call_parts, expr_definitions, expr_has_layout, expr_has_variants, expr_is_align, expr_layout, expr_name, expr_no_others, expr_num_parts, expr_shape, expr_variant_definitions, expr_variants};
 ghost use Rattle.std.proofs.Common.{lit≤};
-ghost use Rattle.std.specs.Prelude.{IfErr, IfOk, None, OnOk, Some, [], length, refl, ℕ, ◌++◌, ◌+◌, ◌≡◌, ◌≤◌};
+ghost use Rattle.std.specs.Prelude.{IfErr, IfOk, None, OnOk, Some, [], length, refl, ℕ, ◌++◌, ◌+◌, ◌<◌, ◌≡◌, ◌≤◌};
 
 use archive_core::boxed::{ArchivedBox, BoxResolver};
 use archive_core::error::Error;
@@ -327,7 +327,10 @@ impl Archive for Expr {
 
 // Writes what a box owns.
 #[cycle(serialize_expr)]
-fn serialize_box_expr<S: Writer + Keys + ResolverAlloc>(value: &Box<Expr>, serializer: &mut S) -> Result<BoxResolver, Error>
+fn serialize_box_expr<S: Writer + Keys + ResolverAlloc>(
+    value: &Box<Expr>,
+    serializer: &mut S,
+) -> Result<BoxResolver, Error>
     ensures serialized { IfOk result (λ r. Serialized expr_definitions (boxed (one expr_shape))
         (⟦<Box<Expr> as Archive>⟧.keys value.now) (⟦<Box<Expr> as Archive>⟧.meaning value.now)
         (⟦<Box<Expr> as Archive>⟧.flat value.now r) (S.state serializer.old)
@@ -351,7 +354,10 @@ fn serialize_box_expr<S: Writer + Keys + ResolverAlloc>(value: &Box<Expr>, seria
 
 // Writes what each of the values owns, in order.
 #[cycle(serialize_expr)]
-fn serialize_each_expr<S: Writer + Keys + ResolverAlloc>(values: &[Expr], serializer: &mut S) -> Result<Vec<<Expr as Archive>::Resolver, S::Alloc>, Error>
+fn serialize_each_expr<S: Writer + Keys + ResolverAlloc>(
+    values: &[Expr],
+    serializer: &mut S,
+) -> Result<Vec<<Expr as Archive>::Resolver, S::Alloc>, Error>
     ensures serialized { IfOk result (λ rs. SerializedRun expr_definitions expr_shape
         (length values.now) (each_keys ⟦<Expr as Archive>⟧.keys values.now)
         (each_meaning ⟦<Expr as Archive>⟧.meaning values.now)
@@ -379,7 +385,10 @@ fn serialize_each_expr<S: Writer + Keys + ResolverAlloc>(values: &[Expr], serial
 
 // Writes what a vector owns.
 #[cycle(serialize_expr)]
-fn serialize_vec_expr<S: Writer + Keys + ResolverAlloc>(value: &Vec<Expr>, serializer: &mut S) -> Result<VecResolver, Error>
+fn serialize_vec_expr<S: Writer + Keys + ResolverAlloc>(
+    value: &Vec<Expr>,
+    serializer: &mut S,
+) -> Result<VecResolver, Error>
     ensures serialized { IfOk result (λ r. Serialized expr_definitions (vec expr_shape)
         (⟦<Vec<Expr> as Archive>⟧.keys value.now) (⟦<Vec<Expr> as Archive>⟧.meaning value.now)
         (⟦<Vec<Expr> as Archive>⟧.flat value.now r) (S.state serializer.old)
@@ -462,7 +471,10 @@ fn serialize_expr_call<S: Writer + Keys + ResolverAlloc>(
 
 // Writes what a value owns.
 #[cycle(serialize_expr)]
-fn serialize_whole_expr<S: Writer + Keys + ResolverAlloc>(value: &Expr, serializer: &mut S) -> Result<ExprResolver, Error>
+fn serialize_whole_expr<S: Writer + Keys + ResolverAlloc>(
+    value: &Expr,
+    serializer: &mut S,
+) -> Result<ExprResolver, Error>
     ensures serialized { IfOk result (λ r. Serialized expr_definitions expr_shape
         (⟦<Expr as Archive>⟧.keys value.now) (⟦<Expr as Archive>⟧.meaning value.now)
         (⟦<Expr as Archive>⟧.flat value.now r) (S.state serializer.old) (S.state serializer.new)) }
@@ -498,7 +510,10 @@ fn serialize_whole_expr<S: Writer + Keys + ResolverAlloc>(value: &Expr, serializ
 // The same by a call, whose result has its room only while it lasts.
 #[cycle(serialize_expr)]
 #[inline(always)]
-fn serialize_expr<S: Writer + Keys + ResolverAlloc>(value: &Expr, serializer: &mut S) -> Result<ExprResolver, Error>
+fn serialize_expr<S: Writer + Keys + ResolverAlloc>(
+    value: &Expr,
+    serializer: &mut S,
+) -> Result<ExprResolver, Error>
     ensures serialized { IfOk result (λ r. Serialized expr_definitions expr_shape
         (⟦<Expr as Archive>⟧.keys value.now) (⟦<Expr as Archive>⟧.meaning value.now)
         (⟦<Expr as Archive>⟧.flat value.now r) (S.state serializer.old) (S.state serializer.new)) }
@@ -548,6 +563,16 @@ impl<S: Writer + Keys + ResolverAlloc> SerializeUnsized<S> for Expr {
     fn serialize_unsized(&self, serializer: &mut S) -> Result<usize, Error> {
         serialize_one(self, serializer)
     }
+}
+
+// The tag of a value, which names its variant.
+#[inline(always)]
+fn tag_of_expr(part: RawView<'_>) -> u8
+    requires { IsPartOf ⟦<ArchivedExpr as ArchivePointee>⟧ part }
+    ensures tag { result ≡ part_tag part.entry }
+    ensures below { result < 3 }
+{
+    tag_of_choice::<ArchivedExpr>(part)
 }
 
 // The part of a value that is `Add` with the index 0.
@@ -605,7 +630,11 @@ fn part_1_of_expr_call<'a>(part: RawView<'a>) -> RawView<'a>
 // Reads a box back.
 #[cycle(read_expr)]
 #[inline(always)]
-fn read_box_expr<D: Entries>(alloc: Global, part: RawView<'_>, deserializer: &mut D) -> Result<Box<Expr>, Error>
+fn read_box_expr<D: Entries>(
+    alloc: Global,
+    part: RawView<'_>,
+    deserializer: &mut D,
+) -> Result<Box<Expr>, Error>
     requires { IsPartOf ⟦<ArchivedBox<ArchivedExpr> as ArchivePointee>⟧ part }
     ensures read { IfOk result (Read ⟦<ArchivedBox<ArchivedExpr> as ArchivePointee>⟧ part D.Entries
         deserializer ⟦<Box<Expr> as Archive>⟧) }
@@ -624,7 +653,11 @@ fn read_box_expr<D: Entries>(alloc: Global, part: RawView<'_>, deserializer: &mu
 // Reads a vector back. One with no elements takes no call, whose result would go through memory.
 #[cycle(read_expr)]
 #[inline(always)]
-fn read_vec_expr<D: Entries>(alloc: Global, part: RawView<'_>, deserializer: &mut D) -> Result<Vec<Expr>, Error>
+fn read_vec_expr<D: Entries>(
+    alloc: Global,
+    part: RawView<'_>,
+    deserializer: &mut D,
+) -> Result<Vec<Expr>, Error>
     requires { IsPartOf ⟦<ArchivedVec<ArchivedExpr> as ArchivePointee>⟧ part }
     ensures read { IfOk result (Read ⟦<ArchivedVec<ArchivedExpr> as ArchivePointee>⟧ part D.Entries
         deserializer ⟦<Vec<Expr> as Archive>⟧) }
@@ -641,7 +674,11 @@ fn read_vec_expr<D: Entries>(alloc: Global, part: RawView<'_>, deserializer: &mu
 // Reads the elements of a vector back.
 #[cycle(read_expr)]
 #[inline(always)]
-fn read_each_expr<D: Entries>(alloc: Global, part: RawView<'_>, deserializer: &mut D) -> Result<Vec<Expr>, Error>
+fn read_each_expr<D: Entries>(
+    alloc: Global,
+    part: RawView<'_>,
+    deserializer: &mut D,
+) -> Result<Vec<Expr>, Error>
     requires { IsPartOf ⟦<ArchivedVec<ArchivedExpr> as ArchivePointee>⟧ part }
     ensures read { IfOk result (Read ⟦<ArchivedVec<ArchivedExpr> as ArchivePointee>⟧ part D.Entries
         deserializer ⟦<Vec<Expr> as Archive>⟧) }
@@ -663,7 +700,11 @@ fn read_each_expr<D: Entries>(alloc: Global, part: RawView<'_>, deserializer: &m
 
 // Reads `Num` back.
 #[inline(always)]
-fn read_expr_num<D: Entries>(alloc: Global, part: RawView<'_>, deserializer: &mut D) -> Result<Expr, Error>
+fn read_expr_num<D: Entries>(
+    alloc: Global,
+    part: RawView<'_>,
+    deserializer: &mut D,
+) -> Result<Expr, Error>
     requires viewed { IsPartOf ⟦<ArchivedExpr as ArchivePointee>⟧ part }
     requires tag { part_tag part ≡ 0 }
     ensures read { IfOk result (Read ⟦<ArchivedExpr as ArchivePointee>⟧ part D.Entries deserializer
@@ -682,7 +723,11 @@ fn read_expr_num<D: Entries>(alloc: Global, part: RawView<'_>, deserializer: &mu
 // Reads `Add` back.
 #[cycle(read_expr)]
 #[inline(never)]
-fn read_expr_add<D: Entries>(alloc: Global, part: RawView<'_>, deserializer: &mut D) -> Result<Expr, Error>
+fn read_expr_add<D: Entries>(
+    alloc: Global,
+    part: RawView<'_>,
+    deserializer: &mut D,
+) -> Result<Expr, Error>
     requires viewed { IsPartOf ⟦<ArchivedExpr as ArchivePointee>⟧ part }
     requires tag { part_tag part ≡ 1 }
     ensures read { IfOk result (Read ⟦<ArchivedExpr as ArchivePointee>⟧ part D.Entries deserializer
@@ -706,7 +751,11 @@ fn read_expr_add<D: Entries>(alloc: Global, part: RawView<'_>, deserializer: &mu
 // Reads `Call` back.
 #[cycle(read_expr)]
 #[inline(never)]
-fn read_expr_call<D: Entries>(alloc: Global, part: RawView<'_>, deserializer: &mut D) -> Result<Expr, Error>
+fn read_expr_call<D: Entries>(
+    alloc: Global,
+    part: RawView<'_>,
+    deserializer: &mut D,
+) -> Result<Expr, Error>
     requires viewed { IsPartOf ⟦<ArchivedExpr as ArchivePointee>⟧ part }
     requires tag { part_tag part ≡ 2 }
     ensures read { IfOk result (Read ⟦<ArchivedExpr as ArchivePointee>⟧ part D.Entries deserializer
@@ -730,14 +779,18 @@ fn read_expr_call<D: Entries>(alloc: Global, part: RawView<'_>, deserializer: &m
 // Reads a value back.
 #[cycle(read_expr)]
 #[inline(always)]
-fn read_expr<D: Entries>(alloc: Global, part: RawView<'_>, deserializer: &mut D) -> Result<Expr, Error>
+fn read_expr<D: Entries>(
+    alloc: Global,
+    part: RawView<'_>,
+    deserializer: &mut D,
+) -> Result<Expr, Error>
     requires { IsPartOf ⟦<ArchivedExpr as ArchivePointee>⟧ part }
     ensures read { IfOk result (Read ⟦<ArchivedExpr as ArchivePointee>⟧ part D.Entries deserializer
         ⟦<Expr as Archive>⟧) }
     ensures refused { IfErr result (RefusesPart ⟦<ArchivedExpr as ArchivePointee>⟧ part D.Entries
         deserializer) }
 {
-    match tag_of_choice::<ArchivedExpr>(part) {
+    match tag_of_expr(part) {
         0 => read_expr_num(alloc, part, deserializer),
         1 => read_expr_add(alloc, part, deserializer),
         _ => read_expr_call(alloc, part, deserializer),

@@ -34,7 +34,7 @@ ghost use Rattle.archive_core.specs.Writing.{Resolves, ZeroedPlace};
 ghost use Rattle.archive_core.specs.Written.{GoesOn};
 ghost use Rattle.recursive_types.specs.StmtShape.{stmt_block_parts, stmt_definitions, stmt_has_layout, stmt_has_variants, stmt_is_align, stmt_layout, stmt_name, stmt_no_others, stmt_set_parts, stmt_shape, stmt_stands_for, stmt_variant_definitions, stmt_variants};
 ghost use Rattle.std.proofs.Common.{lit≤};
-ghost use Rattle.std.specs.Prelude.{IfErr, IfOk, None, OnOk, Some, [], length, refl, ℕ, ◌++◌, ◌+◌, ◌≡◌, ◌≤◌};
+ghost use Rattle.std.specs.Prelude.{IfErr, IfOk, None, OnOk, Some, [], length, refl, ℕ, ◌++◌, ◌+◌, ◌<◌, ◌≡◌, ◌≤◌};
 
 use crate::expr::ArchivedExpr;
 use archive_core::error::Error;
@@ -321,7 +321,10 @@ impl Archive for Stmt {
 
 // Writes what each of the values owns, in order.
 #[cycle(serialize_stmt)]
-fn serialize_each_stmt<S: Writer + Keys + ResolverAlloc>(values: &[Stmt], serializer: &mut S) -> Result<Vec<<Stmt as Archive>::Resolver, S::Alloc>, Error>
+fn serialize_each_stmt<S: Writer + Keys + ResolverAlloc>(
+    values: &[Stmt],
+    serializer: &mut S,
+) -> Result<Vec<<Stmt as Archive>::Resolver, S::Alloc>, Error>
     ensures serialized { IfOk result (λ rs. SerializedRun stmt_definitions stmt_shape
         (length values.now) (each_keys ⟦<Stmt as Archive>⟧.keys values.now)
         (each_meaning ⟦<Stmt as Archive>⟧.meaning values.now)
@@ -349,7 +352,10 @@ fn serialize_each_stmt<S: Writer + Keys + ResolverAlloc>(values: &[Stmt], serial
 
 // Writes what a vector owns.
 #[cycle(serialize_stmt)]
-fn serialize_vec_stmt<S: Writer + Keys + ResolverAlloc>(value: &Vec<Stmt>, serializer: &mut S) -> Result<VecResolver, Error>
+fn serialize_vec_stmt<S: Writer + Keys + ResolverAlloc>(
+    value: &Vec<Stmt>,
+    serializer: &mut S,
+) -> Result<VecResolver, Error>
     ensures serialized { IfOk result (λ r. Serialized stmt_definitions (vec stmt_shape)
         (⟦<Vec<Stmt> as Archive>⟧.keys value.now) (⟦<Vec<Stmt> as Archive>⟧.meaning value.now)
         (⟦<Vec<Stmt> as Archive>⟧.flat value.now r) (S.state serializer.old)
@@ -441,7 +447,10 @@ fn serialize_stmt_block<S: Writer + Keys + ResolverAlloc>(
 
 // Writes what a value owns.
 #[cycle(serialize_stmt)]
-fn serialize_whole_stmt<S: Writer + Keys + ResolverAlloc>(value: &Stmt, serializer: &mut S) -> Result<StmtResolver, Error>
+fn serialize_whole_stmt<S: Writer + Keys + ResolverAlloc>(
+    value: &Stmt,
+    serializer: &mut S,
+) -> Result<StmtResolver, Error>
     ensures serialized { IfOk result (λ r. Serialized stmt_definitions stmt_shape
         (⟦<Stmt as Archive>⟧.keys value.now) (⟦<Stmt as Archive>⟧.meaning value.now)
         (⟦<Stmt as Archive>⟧.flat value.now r) (S.state serializer.old) (S.state serializer.new)) }
@@ -466,7 +475,10 @@ fn serialize_whole_stmt<S: Writer + Keys + ResolverAlloc>(value: &Stmt, serializ
 // The same by a call, whose result has its room only while it lasts.
 #[cycle(serialize_stmt)]
 #[inline(always)]
-fn serialize_stmt<S: Writer + Keys + ResolverAlloc>(value: &Stmt, serializer: &mut S) -> Result<StmtResolver, Error>
+fn serialize_stmt<S: Writer + Keys + ResolverAlloc>(
+    value: &Stmt,
+    serializer: &mut S,
+) -> Result<StmtResolver, Error>
     ensures serialized { IfOk result (λ r. Serialized stmt_definitions stmt_shape
         (⟦<Stmt as Archive>⟧.keys value.now) (⟦<Stmt as Archive>⟧.meaning value.now)
         (⟦<Stmt as Archive>⟧.flat value.now r) (S.state serializer.old) (S.state serializer.new)) }
@@ -518,6 +530,16 @@ impl<S: Writer + Keys + ResolverAlloc> SerializeUnsized<S> for Stmt {
     }
 }
 
+// The tag of a value, which names its variant.
+#[inline(always)]
+fn tag_of_stmt(part: RawView<'_>) -> u8
+    requires { IsPartOf ⟦<ArchivedStmt as ArchivePointee>⟧ part }
+    ensures tag { result ≡ part_tag part.entry }
+    ensures below { result < 2 }
+{
+    tag_of_choice::<ArchivedStmt>(part)
+}
+
 // The part of a value that is `Block` with the index 0.
 #[inline(always)]
 fn part_0_of_stmt_block<'a>(part: RawView<'a>) -> RawView<'a>
@@ -534,7 +556,11 @@ fn part_0_of_stmt_block<'a>(part: RawView<'a>) -> RawView<'a>
 // Reads a vector back. One with no elements takes no call, whose result would go through memory.
 #[cycle(read_stmt)]
 #[inline(always)]
-fn read_vec_stmt<D: Entries>(alloc: Global, part: RawView<'_>, deserializer: &mut D) -> Result<Vec<Stmt>, Error>
+fn read_vec_stmt<D: Entries>(
+    alloc: Global,
+    part: RawView<'_>,
+    deserializer: &mut D,
+) -> Result<Vec<Stmt>, Error>
     requires { IsPartOf ⟦<ArchivedVec<ArchivedStmt> as ArchivePointee>⟧ part }
     ensures read { IfOk result (Read ⟦<ArchivedVec<ArchivedStmt> as ArchivePointee>⟧ part D.Entries
         deserializer ⟦<Vec<Stmt> as Archive>⟧) }
@@ -551,7 +577,11 @@ fn read_vec_stmt<D: Entries>(alloc: Global, part: RawView<'_>, deserializer: &mu
 // Reads the elements of a vector back.
 #[cycle(read_stmt)]
 #[inline(always)]
-fn read_each_stmt<D: Entries>(alloc: Global, part: RawView<'_>, deserializer: &mut D) -> Result<Vec<Stmt>, Error>
+fn read_each_stmt<D: Entries>(
+    alloc: Global,
+    part: RawView<'_>,
+    deserializer: &mut D,
+) -> Result<Vec<Stmt>, Error>
     requires { IsPartOf ⟦<ArchivedVec<ArchivedStmt> as ArchivePointee>⟧ part }
     ensures read { IfOk result (Read ⟦<ArchivedVec<ArchivedStmt> as ArchivePointee>⟧ part D.Entries
         deserializer ⟦<Vec<Stmt> as Archive>⟧) }
@@ -573,7 +603,11 @@ fn read_each_stmt<D: Entries>(alloc: Global, part: RawView<'_>, deserializer: &m
 
 // Reads `Set` back.
 #[inline(always)]
-fn read_stmt_set<D: Entries>(alloc: Global, part: RawView<'_>, deserializer: &mut D) -> Result<Stmt, Error>
+fn read_stmt_set<D: Entries>(
+    alloc: Global,
+    part: RawView<'_>,
+    deserializer: &mut D,
+) -> Result<Stmt, Error>
     requires viewed { IsPartOf ⟦<ArchivedStmt as ArchivePointee>⟧ part }
     requires tag { part_tag part ≡ 0 }
     ensures read { IfOk result (Read ⟦<ArchivedStmt as ArchivePointee>⟧ part D.Entries deserializer
@@ -601,7 +635,11 @@ fn read_stmt_set<D: Entries>(alloc: Global, part: RawView<'_>, deserializer: &mu
 // Reads `Block` back.
 #[cycle(read_stmt)]
 #[inline(never)]
-fn read_stmt_block<D: Entries>(alloc: Global, part: RawView<'_>, deserializer: &mut D) -> Result<Stmt, Error>
+fn read_stmt_block<D: Entries>(
+    alloc: Global,
+    part: RawView<'_>,
+    deserializer: &mut D,
+) -> Result<Stmt, Error>
     requires viewed { IsPartOf ⟦<ArchivedStmt as ArchivePointee>⟧ part }
     requires tag { part_tag part ≡ 1 }
     ensures read { IfOk result (Read ⟦<ArchivedStmt as ArchivePointee>⟧ part D.Entries deserializer
@@ -620,14 +658,18 @@ fn read_stmt_block<D: Entries>(alloc: Global, part: RawView<'_>, deserializer: &
 // Reads a value back.
 #[cycle(read_stmt)]
 #[inline(always)]
-fn read_stmt<D: Entries>(alloc: Global, part: RawView<'_>, deserializer: &mut D) -> Result<Stmt, Error>
+fn read_stmt<D: Entries>(
+    alloc: Global,
+    part: RawView<'_>,
+    deserializer: &mut D,
+) -> Result<Stmt, Error>
     requires { IsPartOf ⟦<ArchivedStmt as ArchivePointee>⟧ part }
     ensures read { IfOk result (Read ⟦<ArchivedStmt as ArchivePointee>⟧ part D.Entries deserializer
         ⟦<Stmt as Archive>⟧) }
     ensures refused { IfErr result (RefusesPart ⟦<ArchivedStmt as ArchivePointee>⟧ part D.Entries
         deserializer) }
 {
-    match tag_of_choice::<ArchivedStmt>(part) {
+    match tag_of_stmt(part) {
         0 => read_stmt_set(alloc, part, deserializer),
         _ => read_stmt_block(alloc, part, deserializer),
     }
@@ -681,7 +723,9 @@ impl<'a> StmtView<'a> for Ref<'a, ArchivedStmt> {
         match tag_of_view(self) {
             0 => {
                 let a0 = view_of_payload::<ArchivedStmt, ArchivedExpr>(self, 0, 0, 8);
-                let a1 = view_of_payload::<ArchivedStmt, ArchivedOption<ArchivedExpr>>(self, 0, 1, 32);
+                let a1 = view_of_payload::<ArchivedStmt, ArchivedOption<ArchivedExpr>>(
+                    self, 0, 1, 32,
+                );
                 ViewOfStmt::Set(a0, a1)
             }
             _ => {

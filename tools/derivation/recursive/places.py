@@ -1,4 +1,4 @@
-"""Where the fields of a variant lie that leads back: a function of the module for each finds it, and is passed the impl of the enum.
+"""Which variant of an enum a value is, and where the fields of a variant lie that leads back: functions of the module find it, which are passed the impl of the enum.
 
 The functions that read such variants call each other and are checked together. With that impl, which is made of all variants, in each of their calls the check ran
 out of steps.
@@ -17,16 +17,35 @@ def name(case, i):
     return f"part_{i}_of_{case.n}"
 
 
+def tag(it):
+    """The call for the tag of a value."""
+    return f"tag_of_{it.n}(part)" if by_number.goes(it) else f"tag_of_choice::<{it.archived}>(part)"
+
+
 def text(it):
     """The functions of an enum."""
-    return "\n".join(place(it, case, i) for case in it.cases if goes(it, case) for i in range(case.count))
+    places = [place(it, case, i) for case in it.cases if goes(it, case) for i in range(case.count)]
+    return "\n".join([tagged(it), *places]) if by_number.goes(it) else ""
+
+
+def tagged(it):
+    it.formats.ghost("std.specs.Prelude", "◌<◌")
+    it.formats.ghost("Seen", "IsPartOf", "part_tag")
+    return f"""// The tag of a value, which names its variant.
+#[inline(always)]
+fn tag_of_{it.n}(part: RawView<'_>) -> u8
+    requires {{ IsPartOf ⟦<{it.archived} as ArchivePointee>⟧ part }}
+    ensures tag {{ result ≡ part_tag part.entry }}
+    ensures below {{ result < {len(it.cases)} }}
+{{
+    tag_of_choice::<{it.archived}>(part)
+}}
+"""
 
 
 def place(it, case, i):
     inside, offset = code.inside(it, case.types[i]), case.offsets[i]
-    f = it.formats
-    f.use("archive_core::recursive", "part_of_variant")
-    f.ghost("Seen", "IsPartOf", "part_tag")
+    it.formats.use("archive_core::recursive", "part_of_variant")
     found = Generic("part_of_variant", [it.archived, inside], ["part", str(case.tag), str(i), str(offset)])
     return f"""// The part of a value that is `{case.name}` with the index {i}.
 #[inline(always)]

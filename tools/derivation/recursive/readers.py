@@ -246,7 +246,7 @@ def choice_reading(it):
         tag = "_" if case is it.cases[-1] else str(case.tag)
         levels = "levels, " if it.family.shares and any(case.leads_back) else ""
         arms += f"        {tag} => read_{case.n}(alloc, part, {levels}deserializer),\n"
-    body = f"{one_level(it)}    match tag_of_choice::<{it.archived}>(part) {{\n{arms}    }}\n"
+    body = f"{one_level(it)}    match {places.tag(it)} {{\n{arms}    }}\n"
     return reader(it, it.n, it.name, code.READ.format(T=it.name, X=it.archived), body, "Reads a value back.", not it.is_holder, frames.of_value(it))
 
 
