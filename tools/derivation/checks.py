@@ -11,8 +11,8 @@ from .model import Declaration, Field, Module, Refused, Type
 from .recursive.refusals import MOST_BY_NAME, by_name
 from . import read
 
-# What the variants of a nest come to, in lines of evidence. Of twice as many the check ran out of steps where they are read.
-MOST_EVIDENCE = 150_000
+# What the variants of a nest come to, in lines of evidence.
+MOST_EVIDENCE = 660_000
 
 # How far a type is seen, by the words before it; `pub(super)` and `pub(in ..)` are in between.
 SEEN = {"": 0, "pub(self)": 0, "pub(crate)": 2, "pub": 3}

@@ -124,13 +124,15 @@ class Recursive(RepositoryTest):
         self.assertIn("(sorted_map str_key (leaf (number_kind unsigned w8)))", self.beside("specs", "TaskShape.antt"))
 
     def test_what_is_made_of_tuples_is_read_by_a_function_of_its_own(self):
-        path = self.put("#[derive(Drop)]\npub enum Setting { Ranges(Vec<(i32, u8)>, Option<Vec<(u8, String)>>), Group(Vec<Setting>) }\n")
+        path = self.put("#[derive(Drop)]\npub enum Setting { Ranges(Vec<(i32, u8)>), Group(Vec<Setting>) }\n")
         self.assertEqual(self.run_command(path), (0, ""))
         text = self.text(path)
         self.assertIn("fn read_vec_pair_i32_u8_of_setting<D: Entries>(", text)
         self.assertIn("let a0 = match read_vec_pair_i32_u8_of_setting(alloc, p0, deserializer) {", text)
-        self.assertEqual(text.count("fn read_option_vec_pair_u8_string_of_setting<"), 1)
         self.assertIn("(vec (parts (part (leaf (number_kind signed w32)) (part (leaf (number_kind unsigned w8)) no_part))))", self.beside("specs", "SettingShape.antt"))
+        path = self.put("#[derive(Drop)]\npub enum Setting { Names(Option<Vec<(bool, String)>>), Group(Vec<Setting>) }\n")
+        self.assertEqual(self.run_command(path), (0, ""))
+        self.assertEqual(self.text(path).count("fn read_option_vec_pair_bool_string_of_setting<"), 1)
 
     def test_many_fields_are_lent_to_be_resolved(self):
         few = ", ".join(f"f{i}: u16" for i in range(7))
