@@ -12,7 +12,7 @@ from .recursive.refusals import MOST_BY_NAME, by_name
 from . import read
 
 # What the variants of a nest come to, in lines of evidence.
-MOST_EVIDENCE = 660_000
+MOST_EVIDENCE = 860_000
 
 # How far a type is seen, by the words before it; `pub(super)` and `pub(in ..)` are in between.
 SEEN = {"": 0, "pub(self)": 0, "pub(crate)": 2, "pub": 3}

@@ -3,7 +3,7 @@
 from typing import Dict, Iterator, List, Optional, Tuple
 
 from .recursive import holders, refusals
-from .endless import check_ends
+from .recursive.endless import check_ends
 from .model import Declaration, Refused, Type
 
 POINTERS = {"Box", "BoxSlice", "Vec", "BTreeMap", "Shared", "SharedSlice", "WeakShared"}

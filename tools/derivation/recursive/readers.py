@@ -11,14 +11,12 @@ from ..layout import Generic, Group, call, literal, statement
 from ..model import Refused
 from . import code, resolvers
 
-# Of a graph with an enum, up to so many functions that read its values are proved, which call each other. With eight the check ran out of steps: at the clauses
-# of those that read variants, whether these are one clause or two.
-MOST_OF_GRAPH = 6
+# Of a graph with an enum, up to so many functions that read its values are proved, which call each other.
+MOST_OF_GRAPH = 9
 
 
 def reading(it):
     refuse_many(it)
-    refuse_beside_weak(it)
     out = [made_reading(it)] + [owner_reading(it, type) for type in it.owners]
     if it.is_record:
         out.append(record_reading(it))
@@ -34,14 +32,6 @@ def refuse_many(it):
     if it.family.shares and not it.is_holder and not all(other.is_record for other in it.family.members) and count > MOST_OF_GRAPH:
         said = f"`{it.name}` leads back in more ways than are proved of an enum with shared pointers: {count} functions would read its values, and {MOST_OF_GRAPH} are the most"
         raise Refused(it.declaration.path, it.declaration.line, f"{said}; write fewer variants, and fewer types of fields, that lead back")
-
-
-def refuse_beside_weak(it):
-    """How an enum is read back with a vector of options of shared pointers beside a weak pointer: its check runs out of steps."""
-    types = [type for case in it.cases for type in case.types if it.terms.leads_back(type)]
-    if not it.is_record and any(type.name == "WeakShared" for type in types) and any(type.name == "Vec" and type.args[0].name == "Option" and it.terms.is_shared(type.args[0].args[0]) for type in types):
-        said = f"a `WeakShared` isn't proved in the enum `{it.name}`, which has a `Vec` of options of shared pointers"
-        raise Refused(it.declaration.path, it.declaration.line, f"{said}; write a `Vec` of `Shared`s")
 
 
 def calls_back(family):

@@ -2,7 +2,7 @@
 
 from typing import Dict, List, Set
 
-from .model import Declaration, Refused, Type
+from ..model import Declaration, Refused, Type
 
 # A value of these may hold nothing of what they are around.
 MAY_BE_EMPTY = {"BTreeMap", "BoxSlice", "Option", "OwnedArray", "PhantomData", "SharedSlice", "Vec", "WeakShared"}
