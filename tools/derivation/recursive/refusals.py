@@ -127,7 +127,8 @@ def check_owner(it: Declaration, type: Type, line: int):
     if is_named(type, "array"):
         check_array(it, type, line)
         return
-    if is_nullable(it, type) or is_pointer(it, type) or is_shared(it, type) or is_list(it, type) or is_named(type, "Box") and is_named(type.args[0], "Vec") and is_list(it, type.args[0]):
+    boxed = is_named(type, "Box") and is_named(type.args[0], "Vec")
+    if is_pointer(it, type) or is_shared(it, type) or is_weak(it, type) or is_list(it, type.args[0] if boxed else type, boxed):
         return
     refuse_nullable(it, type, line)
     if is_named(type, "SharedSlice"):
@@ -137,8 +138,8 @@ def check_owner(it: Declaration, type: Type, line: int):
         check_tuple(it, type, line)
         return
     written = (
-        f"a `Box<{it.name}>`, a `Shared<{it.name}>`, an `Option` of one, a `Vec` or a `BoxSlice` of `{it.name}`, of `Box<{it.name}>`, `Option<Box<{it.name}>>` or `Shared<{it.name}>`,"
-        f" a `Vec` of tuples or, but in an enum of a family, of `Option<Shared<{it.name}>>`, a `Box` of a `Vec` of others, a `SharedSlice` or a `BTreeMap` of `{it.name}` is"
+        f"a `Box<{it.name}>`, a `Shared<{it.name}>`, an `Option` of one, a `WeakShared<{it.name}>`, a `Vec` of these, of `{it.name}` or of tuples,"
+        f" a `BoxSlice` or a `Box` of a `Vec` of others than weak pointers and options of shared ones, a `SharedSlice` or a `BTreeMap` of `{it.name}` is"
     )
     if type.name not in ("Box", "BoxSlice", "Option", "Shared", "Vec") or type.own is not None:
         raise Refused(it.path, line, f"`{type.name}` around `{it.name}` isn't written yet; {written}")
@@ -150,7 +151,7 @@ def refuse_nullable(it: Declaration, type: Type, line: int):
     if is_named(type, "Option") and is_named(type.args[0], "WeakShared"):
         raise Refused(it.path, line, f"an `Option` of a `WeakShared` around `{it.name}` isn't written; write the `WeakShared`, which may be a null itself")
     if any(is_named(part, "WeakShared") for part in (type, *type.args)):
-        raise Refused(it.path, line, f"this `WeakShared` around `{it.name}` isn't written; write a `WeakShared<{it.name}>`, in a struct or in an enum that is recursive alone, or a `Vec` of it in a struct")
+        raise Refused(it.path, line, f"this `WeakShared` around `{it.name}` isn't written; write a `WeakShared<{it.name}>`, or a `Vec` of these")
 
 
 def check_array(it: Declaration, type: Type, line: int):
@@ -163,11 +164,9 @@ def check_array(it: Declaration, type: Type, line: int):
 
 
 def check_slice(it: Declaration, type: Type, line: int):
-    """A shared slice that leads back has elements of the type itself; beside it others lead back in a struct alone, by boxes and shared slices. Others aren't proved."""
-    others = [field.type for field in it.all_fields() if leads_back(it, field.type) and field.type is not type]
-    beside = it.kind == "struct" and all(is_pointer(it, other) or is_named(other, "SharedSlice") for other in others)
-    if len(it.family) > 1 or others and not beside or not is_member(it, type.args[0]):
-        said = f"a `SharedSlice` that leads back to `{it.name}` is written with elements of `{it.name}`, if no other field leads back but, in a struct, by a box or a `SharedSlice`, and no other type is recursive with it"
+    """A shared slice that leads back has elements of a type of the family. Others aren't proved."""
+    if not is_member(it, type.args[0]):
+        said = f"a `SharedSlice` that leads back to `{it.name}` is written with elements of a type of this file that is recursive with it"
         raise Refused(it.path, line, f"{said}; write a `Shared` of a struct of this file with a `Vec`")
 
 
@@ -238,20 +237,20 @@ def is_map(it: Declaration, type: Type) -> bool:
     return is_named(type, "BTreeMap") and is_member(it, type.args[1])
 
 
-def is_nullable(it: Declaration, type: Type) -> bool:
-    """Whether it is a weak pointer or a vector of options of shared pointers, but in an enum of a family, or in a struct a vector of weak pointers."""
-    item = type.args[0] if is_named(type, "Vec") else type
-    is_proved = it.kind == "struct" or len(it.family) == 1
-    if item is not type and is_named(item, "Option"):
-        return is_proved and is_shared(it, item)
-    return is_proved and is_named(item, "WeakShared") and is_member(it, item.args[0]) and (it.kind == "struct" or item is type)
+def is_weak(it: Declaration, type: Type) -> bool:
+    """Whether it is a weak pointer to a type of the family."""
+    return is_named(type, "WeakShared") and is_member(it, type.args[0])
 
 
-def is_list(it: Declaration, type: Type) -> bool:
+def is_list(it: Declaration, type: Type, boxed: bool = False) -> bool:
+    """Whether it is a vector or a boxed slice of types of the family or of pointers to these, or a vector of tuples. Weak pointers, and options of shared ones,
+    are in a vector alone that isn't boxed itself: others aren't proved."""
     if not is_named(type, "Vec") and not is_named(type, "BoxSlice"):
         return False
-    item = type.args[0]
-    return is_member(it, item) or is_pointer(it, item) or is_named(item, "tuple") and is_named(type, "Vec") or is_named(item, "Shared") and is_member(it, item.args[0])
+    item, is_vector = type.args[0], is_named(type, "Vec")
+    if is_weak(it, item) or is_named(item, "Option") and is_shared(it, item):
+        return is_vector and not boxed
+    return is_member(it, item) or is_pointer(it, item) or is_shared(it, item) or is_vector and is_named(item, "tuple")
 
 
 def leads_back(it: Declaration, type: Type) -> bool:

@@ -291,22 +291,28 @@ class Recursive(RepositoryTest):
         self.assertEqual(self.run_command("--check", path), (0, ""))
 
     def test_a_variant_with_weak_pointers_is_looked_at_by_their_options(self):
-        path = self.put("use archive_core::rc::{Shared, WeakShared};\n#[derive(Drop)]\npub enum Node { Leaf(u32), Link { next: Vec<Shared<Node>>, up: WeakShared<Node> }, By(Option<Shared<Node>>) }\n")
+        path = self.put("use archive_core::rc::{Shared, WeakShared};\n#[derive(Drop)]\npub enum Node { Leaf(u32), Link { next: Vec<Option<Shared<Node>>>, up: WeakShared<Node> }, By(Option<Shared<Node>>) }\n")
         self.assertEqual(self.run_command(path), (0, ""))
         text, meaning = self.text(path), self.beside("specs", "NodeMeaning.antt")
-        for word in ("struct WeakNodeAt;", "fn serialize_weak_shared_node<", "fn begin_target<"):
+        for word in ("struct WeakNodeAt;", "fn serialize_weak_shared_node<", "fn serialize_keyed_node<", "fn begin_target<"):
             self.assertEqual(text.count(word), 1, word)
         # no clause matches on the record that a weak pointer is
         for word in ("node_link_means_at a0 None = ", "node_link_planned_at a0 (Some a1) = ", "node_means_roll (Layer.Link a0 a1) = node_link_means_at a0 a1.value", "node_keyed_layer (Layer.By None) = "):
             self.assertIn(word, meaning)
-        self.assertIn("node_link_opens : (a0 : (Vec (Shared Node-Source) Global)) (a1 : (WeakShared Node-Source)) → ", meaning)
+        self.assertIn("node_link_opens : (a0 : (Vec (Option (Shared Node-Source)) Global)) (a1 : (WeakShared Node-Source)) → ", meaning)
         self.assertEqual(self.run_command("--check", path), (0, ""))
 
-    def test_a_shared_slice_lies_beside_a_box(self):
-        path = self.put("use archive_core::rc::SharedSlice;\n#[derive(Drop)]\npub struct Sack { first: Option<Box<Sack>>, parts: SharedSlice<Sack> }\n")
+    def test_shared_slices_lie_beside_each_other_and_in_families(self):
+        path = self.put(
+            "use archive_core::rc::SharedSlice;\n#[derive(Drop)]\npub struct Shelf { first: Option<Box<Shelf>>, things: SharedSlice<Thing>, below: SharedSlice<Shelf> }\n"
+            "#[derive(Drop)]\npub enum Thing { Plain(u8), Inner(u8, SharedSlice<Thing>), Own(Box<Shelf>) }\n"
+        )
         self.assertEqual(self.run_command(path), (0, ""))
-        self.assertIn("let items = value.parts.value.as_slice();", self.text(path))
-        self.assertIn("sack_has_keys_at (Some a0) a1 = ", self.beside("specs", "SackMeaning.antt"))
+        text = self.text(path)
+        for word in ("struct SharedSliceThingAt {", "struct SharedSliceShelfAt {", "fn serialize_shared_slice_thing<", "let items2 = value.below.value.as_slice();", "fn read_items_shelf<"):
+            self.assertEqual(text.count(word), 1, word)
+        self.assertIn("c.as_slice-items2.ensures.value", self.beside("proofs", "types", "+serialize_shelf", "Answers.antt"))
+        self.assertIn("(rc_keys t.below.key (run shelf_shape) (length t.below.value.items.value.items)", self.beside("specs", "ShelfMeaning.antt"))
         self.assertEqual(self.run_command("--check", path), (0, ""))
 
     def test_calls_of_one_name_in_a_loop_are_named_after_it(self):

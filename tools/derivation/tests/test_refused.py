@@ -8,8 +8,11 @@ from derivation.read import MOST_OF_VARIANT
 from .repository import RepositoryTest
 
 LIST = ",\n"
-SLICE = "a `SharedSlice` that leads back to `A` is written with elements of `A`, if no other field leads back but, in a struct, by a box or a `SharedSlice`, and no other type is recursive with it; write a `Shared` of a struct of this file with a `Vec`"
-WEAK = "this `WeakShared` around `A` isn't written; write a `WeakShared<A>`, in a struct or in an enum that is recursive alone, or a `Vec` of it in a struct"
+WRITTEN = (
+    "a `Box<A>`, a `Shared<A>`, an `Option` of one, a `WeakShared<A>`, a `Vec` of these, of `A` or of tuples,"
+    " a `BoxSlice` or a `Box` of a `Vec` of others than weak pointers and options of shared ones, a `SharedSlice` or a `BTreeMap` of `A` is"
+)
+SLICE = "a `SharedSlice` that leads back to `A` is written with elements of a type of this file that is recursive with it; write a `Shared` of a struct of this file with a `Vec`"
 ARRAY = "an array that leads back to `A` is written in a struct of up to 7 fields, of 1 to 8 options of boxes, if no other field leads back and no other type is recursive with it; write a `Vec`"
 # A type of a field, and how its refusal begins.
 FIELDS = [
@@ -186,30 +189,29 @@ class Circles(RepositoryTest):
 
     def test_behind_a_pointer(self):
         for text, said in [
-            ("struct A { b: Option<B> }\nstruct B { a: Vec<A> }", "1: this option to `A` isn't written yet; a `Box<A>`, a `Shared<A>`, an `Option` of one, a `Vec` or a `BoxSlice` of `A`, of `Box<A>`, `Option<Box<A>>` or `Shared<A>`, a `Vec` of tuples or, but in an enum of a family, of `Option<Shared<A>>`, a `Box` of a `Vec` of others, a `SharedSlice` or a `BTreeMap` of `A` is"),
-            ("struct W<T>(Vec<T>);\nstruct A { x: W<A> }", "2: `W` around `A` isn't written yet; a `Box<A>`, a `Shared<A>`, an `Option` of one, a `Vec` or a `BoxSlice` of `A`, of `Box<A>`, `Option<Box<A>>` or `Shared<A>`, a `Vec` of tuples or, but in an enum of a family, of `Option<Shared<A>>`, a `Box` of a `Vec` of others, a `SharedSlice` or a `BTreeMap` of `A` is"),
+            ("struct A { b: Option<B> }\nstruct B { a: Vec<A> }", f"1: this option to `A` isn't written yet; {WRITTEN}"),
+            ("struct W<T>(Vec<T>);\nstruct A { x: W<A> }", f"2: `W` around `A` isn't written yet; {WRITTEN}"),
             ("\nstruct A { a: Box<A> }", "2: each value of `A` holds another, with no end; write an `Option` or a `Vec` around it"),
             ("enum A { X(Box<B>), Y(u8, Box<A>) }\nstruct B { a: Result<Box<A>, Box<B>> }", "1: each value of `A` holds another, with no end; add a variant that holds none"),
             ("struct A<T> { x: T, a: Vec<A<T>> }", "1: `A` is recursive (A > A) and has type parameters; name its arguments, one type for each"),
-            ("struct A { a: Option<Vec<A>> }", "1: this option to `A` isn't written yet; a `Box<A>`, a `Shared<A>`, an `Option` of one, a `Vec` or a `BoxSlice` of `A`, of `Box<A>`, `Option<Box<A>>` or `Shared<A>`, a `Vec` of tuples or, but in an enum of a family, of `Option<Shared<A>>`, a `Box` of a `Vec` of others, a `SharedSlice` or a `BTreeMap` of `A` is"),
-            ("struct A { a: Vec<Vec<A>> }", "1: this `Vec` of pointers to `A` isn't written yet; a `Box<A>`, a `Shared<A>`, an `Option` of one, a `Vec` or a `BoxSlice` of `A`, of `Box<A>`, `Option<Box<A>>` or `Shared<A>`, a `Vec` of tuples or, but in an enum of a family, of `Option<Shared<A>>`, a `Box` of a `Vec` of others, a `SharedSlice` or a `BTreeMap` of `A` is"),
+            ("struct A { a: Option<Vec<A>> }", f"1: this option to `A` isn't written yet; {WRITTEN}"),
+            ("struct A { a: Vec<Vec<A>> }", f"1: this `Vec` of pointers to `A` isn't written yet; {WRITTEN}"),
             ("use archive_core::rc::WeakShared;\nstruct A { a: Option<WeakShared<A>> }", "2: an `Option` of a `WeakShared` around `A` isn't written; write the `WeakShared`, which may be a null itself"),
-            ("use archive_core::rc::WeakShared;\nenum A { X, Y(WeakShared<A>), Z(Box<B>) }\nstruct B { a: Vec<A> }", f"2: {WEAK}"),
-            ("use archive_core::rc::WeakShared;\nenum A { X, Y(Vec<WeakShared<A>>) }", f"2: {WEAK}"),
-            ("use archive_core::boxed::BoxSlice;\nuse archive_core::rc::Shared;\nstruct A { a: BoxSlice<Option<Shared<A>>> }", "3: this `BoxSlice` of pointers to `A` isn't written yet; a `Box<A>`, a `Shared<A>`, an `Option` of one, a `Vec` or a `BoxSlice` of `A`, of `Box<A>`, `Option<Box<A>>` or `Shared<A>`, a `Vec` of tuples or, but in an enum of a family, of `Option<Shared<A>>`, a `Box` of a `Vec` of others, a `SharedSlice` or a `BTreeMap` of `A` is"),
-            ("use archive_core::rc::Shared;\nenum A { X, Y(Vec<Option<Shared<A>>>), Z(Box<B>) }\nstruct B { a: Vec<A> }", "2: this `Vec` of pointers to `A` isn't written yet; a `Box<A>`, a `Shared<A>`, an `Option` of one, a `Vec` or a `BoxSlice` of `A`, of `Box<A>`, `Option<Box<A>>` or `Shared<A>`, a `Vec` of tuples or, but in an enum of a family, of `Option<Shared<A>>`, a `Box` of a `Vec` of others, a `SharedSlice` or a `BTreeMap` of `A` is"),
-            ("use archive_core::boxed::BoxSlice;\nuse archive_core::rc::WeakShared;\nstruct A { a: BoxSlice<WeakShared<A>> }", f"3: {WEAK}"),
+            ("use archive_core::rc::WeakShared;\nstruct A { a: Vec<A>, b: Box<WeakShared<A>> }", "2: this `WeakShared` around `A` isn't written; write a `WeakShared<A>`, or a `Vec` of these"),
+            ("use archive_core::rc::{SharedSlice, WeakShared};\nenum A { X, Y(SharedSlice<WeakShared<A>>) }", "2: this `WeakShared` around `A` isn't written; write a `WeakShared<A>`, or a `Vec` of these"),
+            ("use archive_core::rc::WeakShared;\nenum A { X, Y(Box<Vec<Option<WeakShared<A>>>>) }", f"2: this `Box` of pointers to `A` isn't written yet; {WRITTEN}"),
+            ("use archive_core::boxed::BoxSlice;\nuse archive_core::rc::WeakShared;\nstruct A { a: BoxSlice<WeakShared<A>> }", "3: this `WeakShared` around `A` isn't written; write a `WeakShared<A>`, or a `Vec` of these"),
+            ("use archive_core::boxed::BoxSlice;\nuse archive_core::rc::Shared;\nenum A { X, Y(BoxSlice<Option<Shared<A>>>) }", f"3: this `BoxSlice` of pointers to `A` isn't written yet; {WRITTEN}"),
+            ("use archive_core::rc::Shared;\nstruct A { a: Box<Vec<Option<Shared<A>>>> }", f"2: this `Box` of pointers to `A` isn't written yet; {WRITTEN}"),
             ("use archive_core::rc::SharedSlice;\nstruct A { a: SharedSlice<A> }\nstruct B { b: SharedSlice<A> }", "3: a `SharedSlice` of the recursive `A` isn't written in another type; write a `Vec` of `Shared`s"),
             ("use archive_core::rc::SharedSlice;\nstruct A { a: SharedSlice<Box<A>> }", f"2: {SLICE}"),
-            ("use archive_core::rc::SharedSlice;\nstruct A { a: SharedSlice<A>, b: Vec<B> }\nstruct B { a: Vec<A> }", f"2: {SLICE}"),
-            ("use archive_core::rc::{Shared, SharedSlice};\nstruct A { a: SharedSlice<A>, b: Vec<Shared<A>> }", f"2: {SLICE}"),
-            ("use archive_core::rc::SharedSlice;\nenum A { X(Option<Box<A>>), Y(SharedSlice<A>) }", f"2: {SLICE}"),
+            ("use archive_core::rc::{Shared, SharedSlice};\nenum A { X, Y(SharedSlice<Option<Shared<A>>>) }", f"2: {SLICE}"),
             ("use archive_core::rc::WeakShared;\nstruct A { a: Vec<(u8, A)>, b: WeakShared<A> }", "2: `A` leads to itself behind a shared pointer, and a tuple around it isn't written yet; write a struct of this file"),
-            ("use archive_core::rc::SharedSlice;\nstruct A { a: Vec<SharedSlice<A>> }", "2: this `Vec` of pointers to `A` isn't written yet; a `Box<A>`, a `Shared<A>`, an `Option` of one, a `Vec` or a `BoxSlice` of `A`, of `Box<A>`, `Option<Box<A>>` or `Shared<A>`, a `Vec` of tuples or, but in an enum of a family, of `Option<Shared<A>>`, a `Box` of a `Vec` of others, a `SharedSlice` or a `BTreeMap` of `A` is"),
+            ("use archive_core::rc::SharedSlice;\nstruct A { a: Vec<SharedSlice<A>> }", f"2: this `Vec` of pointers to `A` isn't written yet; {WRITTEN}"),
             ("use std::collections::BTreeMap;\nstruct A { a: BTreeMap<u8, A> }", "2: a `BTreeMap` that leads back to `A` is written with keys that are a `String`; write a `Vec` of a struct of this file"),
             ("use std::collections::BTreeMap;\nstruct A { a: BTreeMap<u8, B> }\nstruct B { a: Vec<A> }", "2: a `BTreeMap` that leads back to `A` is written if no other type is recursive with it and it shares nothing; write a `Vec` of a struct of this file"),
             ("use std::collections::BTreeMap;\nuse archive_core::rc::Shared;\nstruct A { a: Vec<Shared<A>>,\n b: BTreeMap<u8, A> }", "4: a `BTreeMap` that leads back to `A` is written if no other type is recursive with it and it shares nothing; write a `Vec` of a struct of this file"),
-            ("struct A { a: Result<Box<A>, u8> }", "1: `Result` around `A` isn't written yet; a `Box<A>`, a `Shared<A>`, an `Option` of one, a `Vec` or a `BoxSlice` of `A`, of `Box<A>`, `Option<Box<A>>` or `Shared<A>`, a `Vec` of tuples or, but in an enum of a family, of `Option<Shared<A>>`, a `Box` of a `Vec` of others, a `SharedSlice` or a `BTreeMap` of `A` is"),
+            ("struct A { a: Result<Box<A>, u8> }", f"1: `Result` around `A` isn't written yet; {WRITTEN}"),
             (f"enum A {{ X(Vec<A>),\n{LIST.join(f'V{i}' for i in range(70))} }}", "61: the recursive `A` has more variants up to here than the toolchain follows; put some into an enum of another file"),
             ("struct A { a: Vec<A>,\n b: archive_core::rc::SharedStr }", "2: this field of the recursive `A` is of a type that tools/derive doesn't write there; put it into a struct of another file"),
             ("struct A { a: Vec<A>,\n b: Option<(u8, u8)> }", "2: a plain tuple in the recursive `A` is written in a `Vec` alone; write a struct of another file, or its parts as fields"),

@@ -5,15 +5,15 @@ import os
 from .repository import RepositoryTest
 
 OAK = "use archive_core::rc::Shared;\n#[derive(Drop)]\npub enum Oak { Leaf, Options(Vec<Option<Shared<Oak>>>) }\n"
-MIX = """use archive_core::rc::{Shared, WeakShared};
+MIX = """use archive_core::rc::{Shared, SharedSlice, WeakShared};
 #[derive(Drop)]
-pub enum Mix { Leaf(u8), All(Vec<Shared<Mix>>), Both(WeakShared<Mix>, Vec<Option<Shared<Mix>>>), One(Shared<Mix>) }
+pub enum Mix { Leaf(u8), All(Vec<Shared<Mix>>), Both(WeakShared<Mix>, Vec<WeakShared<Mix>>, SharedSlice<Mix>), One(Shared<Mix>) }
 """
-TOWN = """use archive_core::rc::{Shared, WeakShared};
+TOWN = """use archive_core::rc::WeakShared;
 #[derive(Drop)]
 pub struct Town { way: WeakShared<Way> }
 #[derive(Drop)]
-pub enum Way { Closed(u8), To(Shared<Town>) }
+pub enum Way { Closed(u8), To(WeakShared<Town>) }
 """
 
 
@@ -38,7 +38,7 @@ class Resolved(RepositoryTest):
         answers = self.answers("Mix")
         self.assertIn("w.of-h0.result.len ≡ length w.in-All.a0.items = grind (arith, w.of-h0.ensures, w.len.ensures)", answers)
         self.assertIn("w.of-h1.result.len ≡ length w.in-Both.a1.items = grind (arith, w.of-h1.ensures, w.len-in-Both.ensures)", answers)
-        self.assertIn("w.resolve_named_case_2.new.place.0", answers)
+        self.assertIn("w.resolve_named_case_3.new.place.0", answers)
         self.assertIn("let there = rw (w.new-in-One.ensures.position) at w.resolve_named_case_1-in-One.ensures", answers)
 
     def test_others_are_left_to_the_search(self):
