@@ -7,7 +7,7 @@ from .arrays import is_array
 from .holders import laid
 from .reads import Reads, skips_none
 from . import write_proofs
-from . import proofs
+from . import proofs, readers
 
 
 def reading(family):
@@ -246,7 +246,8 @@ def parts_read(it, case, answers, function):
     laws = [laid(it, type) for type in case.types]
     sizes = [it.formats.layout(type) for type in case.types]
     layouts = [f"(record {{ size = {size}; align = {align} }})" for size, align in sizes]
-    first = "" if case.is_record else "c.requires.tag "
+    tag = "1" if readers.is_one_clause(it) and any(case.leads_back) else "tag"
+    first = "" if case.is_record else f"c.requires.{tag} "
     starts = [0 if case.is_record else 1] + [offset + size for offset, (size, _) in zip(case.offsets, sizes)]
 
     def refused(i, at=0):

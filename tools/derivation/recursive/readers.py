@@ -10,6 +10,9 @@ from .term_words import is_map
 from ..layout import Generic, Group, call, literal, statement
 from . import code, resolvers
 
+# Of a graph, up to so many functions that call each other are checked where those of variants have two clauses that they require.
+MOST_WITH_TWO = 6
+
 
 def reading(it):
     out = [made_reading(it)] + [owner_reading(it, type) for type in it.owners]
@@ -201,8 +204,26 @@ def made_values(it, case):
     return values
 
 
+def calls_back(family):
+    """How many functions call each other that read the family's values."""
+    owners = sum(1 + slices.is_shared_slice(type) for it in family.members for type in it.owners)
+    return owners + sum(1 + sum(any(case.leads_back) for case in it.cases if not it.is_record) for it in family.members)
+
+
+def is_one_clause(it):
+    """Whether what the function of a variant requires is one clause: with two the check of as many functions as a graph has runs out of steps."""
+    return it.family.shares and calls_back(it.family) > MOST_WITH_TWO
+
+
+def case_required(it, case):
+    viewed, tag = f"IsPartOf ⟦<{it.archived} as ArchivePointee>⟧ part", f"part_tag part ≡ {case.tag}"
+    if is_one_clause(it) and any(case.leads_back):
+        return f"    requires {{ {viewed} × ({tag}) }}\n"
+    return f"    requires viewed {{ {viewed} }}\n    requires tag {{ {tag} }}\n"
+
+
 def case_reading(it, case):
-    contract_ = f"    requires viewed {{ IsPartOf ⟦<{it.archived} as ArchivePointee>⟧ part }}\n    requires tag {{ part_tag part ≡ {case.tag} }}\n"
+    contract_ = case_required(it, case)
     contract_ += "".join(code.READ.format(T=it.name, X=it.archived).splitlines(True)[1:])
     body = parts_read(it, case) + statement(4, "Ok(", built(it, case), ")")
     text_ = reader(it, case.n, it.name, contract_, body, f"Reads `{case.name}` back.", any(case.leads_back), frames.of_case(it, case))

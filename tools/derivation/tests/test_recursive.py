@@ -302,6 +302,22 @@ class Recursive(RepositoryTest):
         self.assertIn("node_link_opens : (a0 : (Vec (Shared Node-Source) Global)) (a1 : (WeakShared Node-Source)) → ", meaning)
         self.assertEqual(self.run_command("--check", path), (0, ""))
 
+    def test_what_a_variant_requires_is_one_clause_among_many_functions(self):
+        graph = "use archive_core::rc::{Shared, WeakShared};\n#[derive(Drop)]\npub enum Mix { Leaf(u8), All(Vec<Shared<Mix>>)%s, One(Shared<Mix>) }\n"
+        path = self.put(graph % ", Both(WeakShared<Mix>, Vec<Option<Shared<Mix>>>)")
+        self.assertEqual(self.run_command(path), (0, ""))
+        text, answers = self.text(path), self.beside("proofs", "types", "+read_mix", "Answers.antt")
+        self.assertEqual(text.count("#[cycle(read_mix)]"), 9)
+        for tag in (1, 2, 3):
+            self.assertIn(f"    requires {{ IsPartOf ⟦<ArchivedMix as ArchivePointee>⟧ part × (part_tag part ≡ {tag}) }}\n", text)
+        self.assertIn("    requires tag { part_tag part ≡ 0 }\n", text)
+        self.assertIn("c.requires.1 ", answers)
+        self.assertNotIn("c.requires.tag", answers)
+        path = self.put(graph % "")
+        self.assertEqual(self.run_command(path), (0, ""))
+        self.assertEqual(self.text(path).count("    requires tag { part_tag part ≡ "), 3)
+        self.assertIn("c.requires.tag ", self.beside("proofs", "types", "+read_mix", "Answers.antt"))
+
     def test_a_shared_slice_lies_beside_a_box(self):
         path = self.put("use archive_core::rc::SharedSlice;\n#[derive(Drop)]\npub struct Sack { first: Option<Box<Sack>>, parts: SharedSlice<Sack> }\n")
         self.assertEqual(self.run_command(path), (0, ""))
