@@ -8,13 +8,17 @@ from . import slices
 from .reads import is_made, skips_none, word_of
 from .term_words import is_map
 from ..layout import Generic, Group, call, literal, statement
+from ..model import Refused
 from . import code, resolvers
 
 # Of a graph, up to so many functions that call each other are checked where those of variants have two clauses that they require.
 MOST_WITH_TWO = 6
+# Of a graph with an enum, up to so many are proved.
+MOST_OF_GRAPH = 9
 
 
 def reading(it):
+    refuse_many(it)
     out = [made_reading(it)] + [owner_reading(it, type) for type in it.owners]
     if it.is_record:
         out.append(record_reading(it))
@@ -212,7 +216,15 @@ def calls_back(family):
 
 def is_one_clause(it):
     """Whether what the function of a variant requires is one clause: with two the check of as many functions as a graph has runs out of steps."""
-    return it.family.shares and calls_back(it.family) > MOST_WITH_TWO
+    return it.family.shares and not it.is_holder and calls_back(it.family) > MOST_WITH_TWO
+
+
+def refuse_many(it):
+    """Of a graph with an enum, how its values are read back isn't proved by more functions."""
+    count, enums = calls_back(it.family), [other for other in it.family.members if not other.is_record]
+    if it.family.shares and enums and not it.is_holder and count > MOST_OF_GRAPH:
+        said = f"`{it.name}` leads back in more ways than are proved of an enum with shared pointers: {count} functions would read its values, and {MOST_OF_GRAPH} are the most"
+        raise Refused(it.declaration.path, it.declaration.line, f"{said}; write fewer variants, and fewer types of fields, that lead back")
 
 
 def case_required(it, case):

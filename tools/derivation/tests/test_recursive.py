@@ -318,6 +318,13 @@ class Recursive(RepositoryTest):
         self.assertEqual(self.text(path).count("    requires tag { part_tag part ≡ "), 3)
         self.assertIn("c.requires.tag ", self.beside("proofs", "types", "+read_mix", "Answers.antt"))
 
+    def test_a_graph_with_an_enum_is_read_by_up_to_nine_functions(self):
+        graph = "use archive_core::rc::{Shared, WeakShared};\n#[derive(Drop)]\npub enum Mix { All(Vec<Shared<Mix>>), Both(WeakShared<Mix>, Vec<Option<Shared<Mix>>>), One(Shared<Mix>), Leaf(%s) }\n"
+        self.assertEqual(self.run_command(self.put(graph % "u8")), (0, ""))
+        said = "`Mix` leads back in more ways than are proved of an enum with shared pointers: 10 functions would read its values, and 9 are the most"
+        path = self.put(graph % "Shared<Mix>")
+        self.assertEqual(self.run_command(path), (2, f"crates/game/src/types.rt:3: {said}; write fewer variants, and fewer types of fields, that lead back\n"))
+
     def test_a_shared_slice_lies_beside_a_box(self):
         path = self.put("use archive_core::rc::SharedSlice;\n#[derive(Drop)]\npub struct Sack { first: Option<Box<Sack>>, parts: SharedSlice<Sack> }\n")
         self.assertEqual(self.run_command(path), (0, ""))
