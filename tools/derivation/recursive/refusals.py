@@ -150,7 +150,7 @@ def refuse_nullable(it: Declaration, type: Type, line: int):
     if is_named(type, "Option") and is_named(type.args[0], "WeakShared"):
         raise Refused(it.path, line, f"an `Option` of a `WeakShared` around `{it.name}` isn't written; write the `WeakShared`, which may be a null itself")
     if any(is_named(part, "WeakShared") for part in (type, *type.args)):
-        raise Refused(it.path, line, f"this `WeakShared` around `{it.name}` isn't written; write a `WeakShared<{it.name}>`, in a struct or in an enum that is recursive alone, or a `Vec` of it in a struct")
+        raise Refused(it.path, line, f"this `WeakShared` around `{it.name}` isn't written; write a `WeakShared<{it.name}>`, or a `Vec` of it, in a struct or in an enum that is recursive alone")
 
 
 def check_array(it: Declaration, type: Type, line: int):
@@ -239,12 +239,12 @@ def is_map(it: Declaration, type: Type) -> bool:
 
 
 def is_nullable(it: Declaration, type: Type) -> bool:
-    """Whether it is a weak pointer or a vector of options of shared pointers, but in an enum of a family, or in a struct a vector of weak pointers."""
+    """Whether it is a weak pointer, or a vector of these or of options of shared pointers, but in an enum of a family."""
     item = type.args[0] if is_named(type, "Vec") else type
     is_proved = it.kind == "struct" or len(it.family) == 1
     if item is not type and is_named(item, "Option"):
         return is_proved and is_shared(it, item)
-    return is_proved and is_named(item, "WeakShared") and is_member(it, item.args[0]) and (it.kind == "struct" or item is type)
+    return is_proved and is_named(item, "WeakShared") and is_member(it, item.args[0])
 
 
 def is_list(it: Declaration, type: Type) -> bool:

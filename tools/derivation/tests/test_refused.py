@@ -9,7 +9,7 @@ from .repository import RepositoryTest
 
 LIST = ",\n"
 SLICE = "a `SharedSlice` that leads back to `A` is written with elements of `A`, if no other field leads back but, in a struct, by a box or a `SharedSlice`, and no other type is recursive with it; write a `Shared` of a struct of this file with a `Vec`"
-WEAK = "this `WeakShared` around `A` isn't written; write a `WeakShared<A>`, in a struct or in an enum that is recursive alone, or a `Vec` of it in a struct"
+WEAK = "this `WeakShared` around `A` isn't written; write a `WeakShared<A>`, or a `Vec` of it, in a struct or in an enum that is recursive alone"
 ARRAY = "an array that leads back to `A` is written in a struct of up to 7 fields, of 1 to 8 options of boxes, if no other field leads back and no other type is recursive with it; write a `Vec`"
 # A type of a field, and how its refusal begins.
 FIELDS = [
@@ -195,7 +195,7 @@ class Circles(RepositoryTest):
             ("struct A { a: Vec<Vec<A>> }", "1: this `Vec` of pointers to `A` isn't written yet; a `Box<A>`, a `Shared<A>`, an `Option` of one, a `Vec` or a `BoxSlice` of `A`, of `Box<A>`, `Option<Box<A>>` or `Shared<A>`, a `Vec` of tuples or, but in an enum of a family, of `Option<Shared<A>>`, a `Box` of a `Vec` of others, a `SharedSlice` or a `BTreeMap` of `A` is"),
             ("use archive_core::rc::WeakShared;\nstruct A { a: Option<WeakShared<A>> }", "2: an `Option` of a `WeakShared` around `A` isn't written; write the `WeakShared`, which may be a null itself"),
             ("use archive_core::rc::WeakShared;\nenum A { X, Y(WeakShared<A>), Z(Box<B>) }\nstruct B { a: Vec<A> }", f"2: {WEAK}"),
-            ("use archive_core::rc::WeakShared;\nenum A { X, Y(Vec<WeakShared<A>>) }", f"2: {WEAK}"),
+            ("use archive_core::rc::WeakShared;\nenum A { X, Y(Vec<WeakShared<A>>), Z(Box<B>) }\nstruct B { a: Vec<A> }", f"2: {WEAK}"),
             ("use archive_core::boxed::BoxSlice;\nuse archive_core::rc::Shared;\nstruct A { a: BoxSlice<Option<Shared<A>>> }", "3: this `BoxSlice` of pointers to `A` isn't written yet; a `Box<A>`, a `Shared<A>`, an `Option` of one, a `Vec` or a `BoxSlice` of `A`, of `Box<A>`, `Option<Box<A>>` or `Shared<A>`, a `Vec` of tuples or, but in an enum of a family, of `Option<Shared<A>>`, a `Box` of a `Vec` of others, a `SharedSlice` or a `BTreeMap` of `A` is"),
             ("use archive_core::rc::Shared;\nenum A { X, Y(Vec<Option<Shared<A>>>), Z(Box<B>) }\nstruct B { a: Vec<A> }", "2: this `Vec` of pointers to `A` isn't written yet; a `Box<A>`, a `Shared<A>`, an `Option` of one, a `Vec` or a `BoxSlice` of `A`, of `Box<A>`, `Option<Box<A>>` or `Shared<A>`, a `Vec` of tuples or, but in an enum of a family, of `Option<Shared<A>>`, a `Box` of a `Vec` of others, a `SharedSlice` or a `BTreeMap` of `A` is"),
             ("use archive_core::boxed::BoxSlice;\nuse archive_core::rc::WeakShared;\nstruct A { a: BoxSlice<WeakShared<A>> }", f"3: {WEAK}"),
