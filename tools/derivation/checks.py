@@ -3,23 +3,21 @@
 from typing import Callable, Dict, List, Optional, Sequence
 
 from . import arrays, evidence
+from .arrays import has_parameter
 from .formats import POINTERS, snake, substituted
 from .loads import MOST as MOST_LOAD
 from .loads import MOST_OF_VARIANTS, Loads
 from .long import MOST_BY_NUMBER, is_long
 from .model import Declaration, Field, Module, Refused, Type
-from .recursive.refusals import MOST_BY_NAME, by_name
+from .recursive.refusals import MOST_BY_NAME, with_rows_named
 from . import read
 
-# What the variants of a nest come to, in lines of evidence.
+# What the variants of an enum that is recursive, or holds a recursive type, come to at most, in lines of evidence: as much is proved. Of five times as much the
+# check took over nine gigabytes.
 MOST_EVIDENCE = 860_000
 
 # How far a type is seen, by the words before it; `pub(super)` and `pub(in ..)` are in between.
 SEEN = {"": 0, "pub(self)": 0, "pub(crate)": 2, "pub": 3}
-
-
-def has_parameter(it: Type) -> bool:
-    return it.parameter or any(map(has_parameter, it.args))
 
 
 def is_same(one: Type, other: Type) -> bool:
@@ -177,7 +175,7 @@ def check_variants(module: Module, loads: Loads, it: Declaration):
     for v in it.variants if it.part_by_part else []:
         fields = [field.type for field in v.fields]
         types.append(fields)
-        nest.append([by_name(it, type) for type in fields])
+        nest.append([with_rows_named(it, type) for type in fields])
         if len(types) + len(fields) > read.DEEPEST or loads.of_variants(types) > MOST_OF_VARIANTS or evidence.variants(nest) > MOST_EVIDENCE:
             recursive = "the recursive " if it.recursive else ""
             raise Refused(module.path, v.line, f"{recursive}`{it.name}` has more variants up to here than the toolchain follows; put some into an enum of another file")

@@ -4,17 +4,14 @@ An impl that a call is passed is written out by the check with all that it is ma
 passed it: of six variants with up to three fields these came to gigabytes.
 """
 
-from ..layout import call, pair, signature, statement
+from ..layout import call, flat, pair, signature, statement
+from . import lent
 from .term_words import brought
 
 LETTERS = "ABCDEFGH"
-# What the answers speak of.
+# What the answers speak of beside what those on lent fields do.
 CITED = [
-    ("std.proofs.Common", "◌≡◌ ◌+◌ ◌-◌ ◌<◌ ◌∷◌ length drop slice_set arith refl"),
-    ("std.proofs.lemmas.List", "length-take length-drop length-set"),
-    ("std.specs.Prelude", "Result Ok Err OnOk"),
-    ("archive_core.proofs.Causes", "err_from"),
-    ("archive_core.proofs.OwnChoices", "resolves_variant variant_hindered tagged_whole"),
+    ("std.proofs.Common", "refl"),
     ("archive_core.proofs.fields.Ties", "zeroed_case"),
     ("archive_core.specs.Layout", "up"),
     ("archive_core.specs.SelfCheck.Regions", "no_lower rises_over"),
@@ -76,7 +73,7 @@ def resolving(it, count):
     head = signature(
         f"fn {name(it, count)}",
         [f"{X}: Archive" for X in letters],
-        ["tag: u8", *(f"{X.lower()}: &{X}" for X in letters), pair_of("resolvers: ", [f"{X}::Resolver" for X in letters]), f"place: Place<'_, {it.archived}>"],
+        ["tag: u8", *(f"{X.lower()}: &{X}" for X in letters), "resolvers: " + flat(pair([f"{X}::Resolver" for X in letters])), f"place: Place<'_, {it.archived}>"],
         "Result<(), Error>",
     )
     many = "no field" if count == 0 else "a field" if count == 1 else f"{count} fields"
@@ -96,13 +93,6 @@ def resolving(it, count):
     bytes[0] = tag;
 {statement(4, "", call(f"resolve_{count}", [*fields, "resolvers", "pos", "1", "&mut bytes[1..]"]), "")}}}
 """
-
-
-def pair_of(before, types):
-    """An argument whose type is a nest of pairs."""
-    from ..layout import flat
-
-    return before + flat(pair(types))
 
 
 def files(it):
@@ -128,29 +118,11 @@ def rises(letters):
 def answers(it, count, dotted):
     from .proofs import ON_OK
 
-    n, its = it.n, f"c.resolve_{count}"
-    args = "g c" if count else "c"  # the first is of the impls that it is passed
-    whole = f"{n}_has_variants c.args.tag _ c.requires.variant _ c.requires.definitions _ c.args.place.pos"
     zeroed = f"""
 pub resolve_{count}-requires-clause-zeroed : goal.resolve_{count}-requires-clause-zeroed
 resolve_{count}-requires-clause-zeroed g c = zeroed_case _ _ _ c.args.tag _ (c.requires.inside tt) {rises(LETTERS[:count])} c.requires.zeroed _ refl
 """
-    body = f"""{ON_OK}{zeroed if count else ""}
-pub returns-clause-resolved : goal.returns-clause-resolved
-returns-clause-resolved {args} =
-    let old = c.args.place.bytes.now in
-    let tagged = slice_set old 0 c.args.tag in
-    let new = {its}.new.bytes in
-    let some : 0 < length old = omega (arith, c.requires.zeroed.sized) in
-    let few : length new + 1 ≡ length old = omega (arith, some, {its}.ensures.same_length, length-take (length tagged - 1) (drop 1 tagged), length-drop 1 tagged, length-set old 0 c.args.tag) in
-    let sized : length (c.args.tag ∷ new) ≡ {it.size} = omega (arith, few, c.requires.zeroed.sized) in
-    on_ok {its}.result
-    (λ h. rw (tagged_whole c.args.tag (length tagged - 1) old new some (omega (arith, length-set old 0 c.args.tag)))
-    (resolves_variant _ _ _ _ _ {whole} {n}_layout {n}_has_layout new sized h))
-    {its}.ensures.resolved
-
-pub returns-clause-refused : goal.returns-clause-refused
-returns-clause-refused {args} = err_from {its}.result {its}.ensures.refused (λ e h. variant_hindered _ _ _ _ _ {whole} e h)
-"""
-    more = CITED + [(f"{it.family.crate}.specs.{it.family.name}Shape", f"{n}_has_variants {n}_layout {n}_has_layout")]
-    return f"-- {it.written}\n{brought(body, more)}use Rattle.{dotted}.{name(it, count)}.Goals as goal\n\n{body}"
+    some = "    let some : 0 < length old = omega (arith, c.requires.zeroed.sized) in"
+    args = "g c" if count else "c"  # the first is of the impls that it is passed
+    body = f"{ON_OK}{zeroed if count else ''}\n{lent.whole_answers(it, f'resolve_{count}', some, args)}"
+    return f"-- {it.written}\n{brought(body, lent.CITED + CITED + [lent.shapes(it)])}use Rattle.{dotted}.{name(it, count)}.Goals as goal\n\n{body}"

@@ -100,28 +100,37 @@ def files(it):
     return {f"proofs/{'/'.join(module)}/{function(it)}/Answers.antt": answers(it, dotted)}
 
 
+def whole_answers(it, call, some, args="g c"):
+    """The answers on a variant whose tag and fields are written, these by the call of this name: `some` says why there is a byte."""
+    n, its = it.n, f"c.{call}"
+    whole = f"{n}_has_variants c.args.tag _ c.requires.variant _ c.requires.definitions _ c.args.place.pos"
+    return f"""pub returns-clause-resolved : goal.returns-clause-resolved
+returns-clause-resolved {args} =
+    let old = c.args.place.bytes.now in
+    let tagged = slice_set old 0 c.args.tag in
+    let new = {its}.new.bytes in
+{some}
+    let few : length new + 1 ≡ length old = omega (arith, some, {its}.ensures.same_length, length-take (length tagged - 1) (drop 1 tagged), length-drop 1 tagged, length-set old 0 c.args.tag) in
+    let sized : length (c.args.tag ∷ new) ≡ {it.size} = omega (arith, few, c.requires.zeroed.sized) in
+    on_ok {its}.result
+    (λ h. rw (tagged_whole c.args.tag (length tagged - 1) old new some (omega (arith, length-set old 0 c.args.tag)))
+    (resolves_variant _ _ _ _ _ {whole} {n}_layout {n}_has_layout new sized h))
+    {its}.ensures.resolved
+
+pub returns-clause-refused : goal.returns-clause-refused
+returns-clause-refused {args} = err_from {its}.result {its}.ensures.refused (λ e h. variant_hindered _ _ _ _ _ {whole} e h)
+"""
+
+
 def answers(it, dotted):
     from .proofs import ON_OK
 
-    n = it.n
-    whole = f"{n}_has_variants c.args.tag _ c.requires.variant _ c.requires.definitions _ c.args.place.pos"
-    body = f"""{ON_OK}
-pub returns-clause-resolved : goal.returns-clause-resolved
-returns-clause-resolved g c =
-    let old = c.args.place.bytes.now in
-    let tagged = slice_set old 0 c.args.tag in
-    let new = c.resolve_parts.new.bytes in
-    let rises = g.met.P.Archived.CheckedParts.rises 1 in
-    let some : 0 < length old = omega (arith, rises, c.requires.inside, c.requires.zeroed.sized) in
-    let few : length new + 1 ≡ length old = omega (arith, some, c.resolve_parts.ensures.same_length, length-take (length tagged - 1) (drop 1 tagged), length-drop 1 tagged, length-set old 0 c.args.tag) in
-    let sized : length (c.args.tag ∷ new) ≡ {it.size} = omega (arith, few, c.requires.zeroed.sized) in
-    on_ok c.resolve_parts.result
-    (λ h. rw (tagged_whole c.args.tag (length tagged - 1) old new some (omega (arith, length-set old 0 c.args.tag)))
-    (resolves_variant _ _ _ _ _ {whole} {n}_layout {n}_has_layout new sized h))
-    c.resolve_parts.ensures.resolved
+    some = """    let rises = g.met.P.Archived.CheckedParts.rises 1 in
+    let some : 0 < length old = omega (arith, rises, c.requires.inside, c.requires.zeroed.sized) in"""
+    body = f"{ON_OK}\n{whole_answers(it, 'resolve_parts', some)}"
+    return f"-- {it.written}\n{brought(body, CITED + [shapes(it)])}use Rattle.{dotted}.{function(it)}.Goals as goal\n\n{body}"
 
-pub returns-clause-refused : goal.returns-clause-refused
-returns-clause-refused g c = err_from c.resolve_parts.result c.resolve_parts.ensures.refused (λ e h. variant_hindered _ _ _ _ _ {whole} e h)
-"""
-    more = CITED + [(f"{it.family.crate}.specs.{it.family.name}Shape", f"{n}_has_variants {n}_layout {n}_has_layout")]
-    return f"-- {it.written}\n{brought(body, more)}use Rattle.{dotted}.{function(it)}.Goals as goal\n\n{body}"
+
+def shapes(it):
+    """What the answers speak of the module's own shapes."""
+    return f"{it.family.crate}.specs.{it.family.name}Shape", f"{it.n}_has_variants {it.n}_layout {it.n}_has_layout"

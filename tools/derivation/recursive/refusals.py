@@ -33,11 +33,11 @@ def check_recursive(it: Declaration, line: int, names: str):
     check_kept(it)
 
 
-def by_name(it: Declaration, type: Type) -> Type:
-    """The type with those tuples in it that lead back as types of their own, which they are archived as."""
+def with_rows_named(it: Declaration, type: Type) -> Type:
+    """The type with those tuples in it that lead back as types with names, which they are archived as."""
     if type.name == "tuple" and leads_back(it, type):
         return Type(it.name, own=it)
-    return replace(type, args=[by_name(it, arg) for arg in type.args])
+    return replace(type, args=[with_rows_named(it, arg) for arg in type.args])
 
 
 def check_rows(it: Declaration):

@@ -159,7 +159,7 @@ def bound(it, case):
     return [name if here or not back else f"_{name}" for name, here, back in zip(case.names, is_read, case.leads_back)]
 
 
-def by_name(it, case, rust, arguments):
+def call_of(it, case, rust, arguments):
     """The call by which a variant is resolved whose fields are of these types."""
     if not by_number.goes(it):
         it.formats.use("archive_core::recursive", f"resolve_named_case_{case.count}")
@@ -174,7 +174,7 @@ def resolve_arm(it, case):
     if case.is_long:
         resolved = lent.call(it, case, values, kept_, 16)
     else:
-        resolved = statement(16, "", by_name(it, case, rust, [str(case.tag)] + values + [kept_, "Place::new(pos, bytes)"]), "")
+        resolved = statement(16, "", call_of(it, case, rust, [str(case.tag)] + values + [kept_, "Place::new(pos, bytes)"]), "")
     opened = f"let {it.resolver}::{case.name}(kept) = resolver" if case.count else f"let {it.resolver}::{case.name} = resolver"
     other = " else {\n                    unreachable!();\n                }" if len(it.cases) > 1 else ""
     if not case.count:

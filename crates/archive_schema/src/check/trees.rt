@@ -65,7 +65,8 @@ impl Checker<'_> {
         }
     }
 
-    /// Leaves that region, and takes the elements of this node that come then, if some do.
+    /// Leaves the region that is to be left next, and takes the elements of this node that come
+    /// then, if some do.
     #[inline(always)]
     fn ascend<C: ArchiveContext>(
         &self,

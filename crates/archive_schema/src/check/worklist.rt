@@ -1,6 +1,6 @@
 //! What is left to check.
 
-ghost use Rattle.std.specs.Prelude.{◌≡◌, ◌≤◌, ◌∷◌, [], None, OnSome, IfSome, IfNone};
+ghost use Rattle.std.specs.Prelude.{◌≡◌, ◌≢◌, ◌≤◌, ◌∷◌, [], ℕ, List, None, OnSome, IfSome, IfNone};
 ghost use Rattle.archive_schema.specs.check.Lists.{list_of, left_first, CanLeaveMore, PutsMore};
 
 use archive_check::context::refusals::refuse;
@@ -114,6 +114,8 @@ impl Worklist {
         ensures some { IfSome result (λ outer. list_of self.old ≡ Work.Leave outer.start outer.end
             outer.inner ∷ list_of self.new) }
         ensures none { IfNone result (list_of self.new ≡ list_of self.old) }
+        ensures other { IfNone result ((start end inner : ℕ) → (work : List Work) →
+            list_of self.old ≢ Work.Leave start end inner ∷ work) }
     {
         let Some(last) = self.entries.len().checked_sub(1) else {
             return None;
@@ -133,6 +135,8 @@ impl Worklist {
         ensures some { IfSome result (λ row. list_of self.old ≡ Work.Elements node row.left row.at ∷
             list_of self.new) }
         ensures none { IfNone result (list_of self.new ≡ list_of self.old) }
+        ensures other { IfNone result ((left at : ℕ) → (work : List Work) →
+            list_of self.old ≢ Work.Elements node left at ∷ work) }
     {
         let Some(last) = self.entries.len().checked_sub(1) else {
             return None;
