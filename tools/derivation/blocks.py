@@ -242,7 +242,7 @@ class Rest:
 
     def shapes(self):
         """The parts of the block, with those behind it."""
-        return chain("part", [shape for _, shape, _, _ in self.parts_here], self.behind_of("CheckedParts", "parts", "no_part"))
+        return chain("part", [shape for _, shape, *_ in self.parts_here], self.behind_of("CheckedParts", "parts", "no_part"))
 
     def sized(self):
         defined, shapes = (self.behind_of("CheckedParts", which, end) for which, end in (("definitions", "no_definition"), ("parts", "no_part")))
@@ -251,7 +251,7 @@ class Rest:
 
     def begins(self):
         out = self.law("PortableParts", "begins", "begins_at")
-        for _, _, size, align in reversed(self.parts_here):
+        for _, _, size, align, _ in reversed(self.parts_here):
             out = f"(λ n. begins_over n {align} {size} ({ALIGNS[align]}) _ {out})"
         return out
 

@@ -9,11 +9,11 @@ from .loads import MOST as MOST_LOAD
 from .loads import MOST_OF_VARIANTS, Loads
 from .long import MOST_BY_NUMBER, is_long
 from .model import Declaration, Field, Module, Refused, Type
-from .recursive.refusals import MOST_BY_NAME, with_rows_named
+from .recursive import variant_rests
+from .recursive.refusals import MOST_BY_NAME, MOST_RECURSIVE_VARIANTS
 from . import read
 
-# What the variants of an enum that is recursive, or holds a recursive type, come to at most, in lines of evidence: as much is proved. Of five times as much the
-# check took over nine gigabytes.
+# What a variant comes to at most, in lines of evidence, of an enum that is recursive or holds a recursive type: as much is proved of all variants of one nest.
 MOST_EVIDENCE = 860_000
 
 # How far a type is seen, by the words before it; `pub(super)` and `pub(in ..)` are in between.
@@ -169,16 +169,17 @@ def check_with_fields(module: Module, it: Declaration):
 
 
 def check_variants(module: Module, loads: Loads, it: Declaration):
-    """Refuses the first variant with which there is too much. Those of enums that neither are recursive nor hold a recursive type go in blocks."""
+    """Refuses the first variant with which there is too much. Variants go in blocks, each of which may be one variant."""
     check_with_fields(module, it)
-    types, nest = [], []
-    for v in it.variants if it.part_by_part else []:
-        fields = [field.type for field in v.fields]
-        types.append(fields)
-        nest.append([with_rows_named(it, type) for type in fields])
-        if len(types) + len(fields) > read.DEEPEST or loads.of_variants(types) > MOST_OF_VARIANTS or evidence.variants(nest) > MOST_EVIDENCE:
-            recursive = "the recursive " if it.recursive else ""
-            raise Refused(module.path, v.line, f"{recursive}`{it.name}` has more variants up to here than the toolchain follows; put some into an enum of another file")
+    if not it.part_by_part:
+        return
+    if len(it.variants) > MOST_RECURSIVE_VARIANTS:
+        said = f"`{it.name}` has {len(it.variants)} variants, and {MOST_RECURSIVE_VARIANTS} are the most of an enum that is recursive or holds a recursive type"
+        raise Refused(module.path, it.variants[MOST_RECURSIVE_VARIANTS].line, f"{said}; put some into an enum of another file")
+    for v, types in zip(it.variants, variant_rests.types_in_turn(it)):
+        if loads.of_variants([types]) > MOST_OF_VARIANTS or evidence.variants([types]) > MOST_EVIDENCE:
+            said = f"`{it.name}::{v.name}` has more in its fields than the toolchain follows where a type is recursive"
+            raise Refused(module.path, v.line, f"{said}; put some into a struct of another file")
 
 
 def check_wide(module: Module):

@@ -6,7 +6,7 @@ from typing import Dict, List, Tuple
 
 from . import files, read
 from .model import MARK, Module, Refused
-from .recursive.refusals import MOST_BY_NAME, MOST_FLAT
+from .recursive.refusals import MOST_BY_NAME, MOST_FLAT, MOST_RECURSIVE_VARIANTS
 from .recursive.refusals import MOST_FIELDS as MOST_OF_RECURSIVE
 
 HELP = f"""Writes what archives your types.
@@ -27,7 +27,7 @@ keys that are whole numbers, `char` or `String`; of the library `BoxSlice`, `Box
 `SharedSlice`, `SharedStr`, `WeakShared`; and other types that this command wrote, of any module or crate of the repository. A struct has
 up to {read.MOST_FIELDS} fields, each variant of an enum of several {read.MOST_OF_VARIANT}, of deep types fewer, a recursive struct {MOST_OF_RECURSIVE}, in a family or a graph {MOST_BY_NAME}, a struct that
 holds a recursive type {read.MOST_FEW}, or beside numbers and texts {MOST_FLAT}. An enum has up to {read.MOST_VARIANTS} variants, {read.MOST_BESIDE_FIELDS} if one has fields, {read.MOST_WITH_FIELDS} with fields, a recursive one or one that
-holds a recursive type 59:
+holds a recursive type {MOST_RECURSIVE_VARIANTS}:
 the command counts what the toolchain takes at once, and tells which field or variant is too much.
 
 Views are compared and hashed as the values that they show if the type derives `Eq`, `PartialOrd`, `Ord` or `Hash` and all fields can be.

@@ -384,9 +384,6 @@ def is_dropped(it: Declaration, source: Source) -> bool:
 
 # What isn't proved among more than eight fields of a variant.
 NOT_IN_FOURS = {"tuple", "array", "OwnedArray", "SharedSlice", "SharedStr", "WeakShared"}
-# Tuples nest up to 64 deep, as those of variants do.
-DEEPEST = 60
-
 
 # Numbers of eight bytes, and what may be beside one in a struct with type parameters.
 WIDE = {"u64", "i64"}

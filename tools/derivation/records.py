@@ -251,11 +251,13 @@ def proofs(formats, declaration):
     """The proofs that are written beside the module, by their paths in the crate."""
     record = Record(formats, declaration)
     out = bulk.proofs(record) if record.in_bulk else {}
+    module = "/".join(declaration.module)
+    dotted = ".".join((declaration.crate, "proofs") + tuple(declaration.module))
+    if record.by_nest and not record.in_bulk:
+        out[f"proofs/{module}/{record.name}Archive/resolve/Answers.antt"] = resolve_answers(record, dotted)
     if not is_made_apart(record):
         return out
     made = made_of(record)
-    module = "/".join(declaration.module)
-    dotted = ".".join((declaration.crate, "proofs") + tuple(declaration.module))
     impl = f"{record.archived}Deserialize{record.name}"
     if record.pieces:
         out.update(pieces_of(record).proofs(module, dotted))
@@ -273,6 +275,19 @@ returns-in-Ok g c = record {{
 }}
 """
     return out
+
+
+def resolve_answers(record, dotted):
+    """The proof that the record is resolved as its nest of fields is: what the call says is named, since the search doesn't find it among many fields."""
+    return f"""-- {WRITTEN}
+use Rattle.std.proofs.Common.{{rules}}
+use Rattle.{dotted}.{record.name}Archive.resolve.Goals as goal
+
+pub returns : goal.returns
+returns g =
+    let there = rw (g.new.ensures.position) at g.resolve_record.ensures in
+    record {{ resolved = search (rules, there.resolved); refused = there.refused; same_length = search rules }}
+"""
 
 
 def views(record):

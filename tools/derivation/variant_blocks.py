@@ -166,14 +166,13 @@ class Rest:
         f = self.formats
         f.ghost("VariantsLayout", "no_variants_reached", "variant_reached")
         f.ghost("Units", "units_reached")
-        f.ghost("LeafLayout", "no_definition_reached")
         out = self.law("no_others", "no_variants_reached")
         for i, run in reversed(list(enumerate(self.runs))):
             behind = f"{self.defined_behind(i)} %s{self.variants_behind(i)}"
             if isinstance(run, int):
                 out = f"(units_reached {run} {behind % ''} {out})"
             else:
-                out = f"(variant_reached {run.defined} {behind % (run.parts + ' ')} (no_definition_reached (parts {run.parts})) {out})"
+                out = f"(variant_reached {run.defined} {behind % (run.parts + ' ')} {self.reached(run)} {out})"
         return out
 
     def sized(self):
@@ -214,6 +213,11 @@ class Rest:
     def parts(self, case):
         part_laws.bring(self.formats)
         return part_laws.parts_of(self.formats, case.types)
+
+    def reached(self, case):
+        """That its parts bring no definition."""
+        self.formats.ghost("LeafLayout", "no_definition_reached")
+        return f"(no_definition_reached (parts {case.parts}))"
 
     def parts_within(self, case):
         parts = self.parts(case)

@@ -101,8 +101,8 @@ fn damaged_notes(rt: HostRuntime) {
     assert_damaged(&rt, alloc, 1, 0x80, Error::InvalidUtf8);
     assert_damaged(&rt, alloc, 16, 0xc0, Error::InvalidUtf8);
     assert_damaged(&rt, alloc, 80, 2, tag_of_none("ArchivedOption", 2));
-    assert_damaged(&rt, alloc, 100, 5, tag_of_none("ArchivedNote", 5));
-    assert_damaged(&rt, alloc, 124, 5, tag_of_none("ArchivedNote", 5));
+    assert_damaged(&rt, alloc, 100, 8, tag_of_none("ArchivedNote", 8));
+    assert_damaged(&rt, alloc, 124, 8, tag_of_none("ArchivedNote", 8));
     assert_damaged(&rt, alloc, 76, 2, elsewhere(16, 11, 20, 28));
     assert_damaged(&rt, alloc, 132, 4, elsewhere(28, 128, 0, 124));
 }
@@ -129,4 +129,30 @@ fn limits_of_depth(rt: HostRuntime) {
     let too_deep = Err(Error::ExceededMaximumSubtreeDepth);
     assert_regions(&rt, rt.alloc(), 3, too_deep);
     assert_regions(&rt, rt.alloc(), 4, Ok(5));
+}
+
+fn either(alloc: Global) -> Result<Note, AllocError> {
+    let about = Note::About(Box::new(alloc, Note::Done(true))?);
+    let days = Note::Days(vec![in alloc; 1, 2]?);
+    let several = Note::Several(vec![in alloc; days]?);
+    Ok(Note::Either(Box::new(alloc, about)?, Box::new(alloc, several)?))
+}
+
+// What the first box holds at 12, about what is done at 0; the days at 24, the one of several at 28, and what the second box holds at 40; the whole at 52.
+const EITHER: &[u8] = b"\x03\x01\0\0\0\0\0\0\0\0\0\0\
+    \x05\0\0\0\xf0\xff\xff\xff\0\0\0\0\
+    \x01\0\x02\0\
+    \x04\0\0\0\xf8\xff\xff\xff\x02\0\0\0\
+    \x07\0\0\0\xf0\xff\xff\xff\x01\0\0\0\
+    \x06\0\0\0\xd4\xff\xff\xff\xec\xff\xff\xff";
+
+// Variants of the second block of the nest.
+#[test]
+fn variants_that_come_later(rt: HostRuntime) {
+    let notes = either(rt.alloc()).expect(&rt, "notes");
+    assert_written(&rt, rt.alloc(), &notes, EITHER);
+    let back: Note = value_of(&rt, rt.alloc(), EITHER);
+    assert_written(&rt, rt.alloc(), &back, EITHER);
+    let days = tag_of_none("ArchivedNote", 8);
+    assert_changed::<ArchivedNote>(&rt, rt.alloc(), EITHER, 28, 8, days);
 }

@@ -18,6 +18,7 @@ from . import expressions
 from . import places
 from . import slices
 from . import tuples
+from . import variant_rests
 from ..model import Type
 from .expressions import EXPR
 from .hollow import boxed_slices, hollow_source, shared_pointers
@@ -49,7 +50,8 @@ READ_ROWS = """    requires {{ IsPartOf ⟦<{X} as ArchivePointee>⟧ part }}
 
 def text(it):
     bring(it)
-    pieces = [types(it), pointee(it), "\n".join(row_format(it, type) for type in it.rows), "" if it.is_holder else stands_for(it), portable(it), view_of(it), resolvers.resolver(it)]
+    pieces = [types(it), pointee(it), "\n".join(row_format(it, type) for type in it.rows), "" if it.is_holder else stands_for(it), portable(it)]
+    pieces += ["" if it.is_record else variant_rests.text(it), view_of(it), resolvers.resolver(it)]
     pieces += [boxed_slices(it), weak.calls(it), shared_pointers(it), lent.text(it), by_number.text(it)]
     pieces += [slices.hollow_slices(it), tuples.hollow_tuples(it, resolvers.kept, resolvers.hollow), arrays.calls(it), arrays.hollow_arrays(it, resolvers.kept, hollow_source), resolvers.archive(it)]
     if it.is_chain:
@@ -103,7 +105,7 @@ def bring(it):
     f.ghost("Written", "GoesOn")
     n = it.n
     names = [f"{n}_{w}" for w in ("name", "shape", "stands_for", "definitions", "layout", "is_align", "has_layout", "no_others")]
-    names += [f"{n}_has_parts", f"{n}_parts"] if it.is_record else [f"{n}_has_variants", f"{n}_variants"] + [f"{case.n}_parts" for case in it.cases]
+    names += [f"{n}_has_parts", f"{n}_parts"] if it.is_record else [f"{n}_has_variants", f"{n}_variants"] + [f"{case.n}_{w}" for case in it.cases for w in ("parts", "definitions")]
     names += [f"{other.n}_{w}" for other in it.family.members for w in ("shape", "definitions")]
     for type in it.family.rows:
         f.ghost("Value", "list")
@@ -123,7 +125,7 @@ def types(it):
         if case.count:
             lines.append(statement(0, f"type {word(it, case)}Parts = ", nest([inside(it, type) for type in case.types], case.is_long), ";"))
     if not it.is_record:
-        lines.append(statement(0, f"type {it.name}Variants = ", pair([f"{word(it, case)}Parts" if case.count else "()" for case in it.cases]), ";"))
+        lines.append(statement(0, f"type {it.name}Variants = ", it.units.nest(), ";"))
     # The check of a list is named for who matches on views of it, as the library's are by all views.
     body = f" {{\n    by: PhantomData<ChainCheck<{it.name}Chain>>,\n}}" if it.is_chain else ";"
     return f"""/// An archived `{it.name}`: {it.size} bytes at a multiple of {it.align}. It {'validates itself' if it.is_chain else 'is validated by its schema'}.

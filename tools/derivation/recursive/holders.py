@@ -12,6 +12,23 @@ from .plain import ARRAYS, is_shaped
 from .refusals import MOST_BY_NAME, MOST_FLAT, PLAIN, recursive_in
 
 
+# That what the argument of a type mentions is mentioned in the type.
+AROUND = {
+    ("BTreeMap", 1): "mentions_map ({})",
+    ("Box", 0): "mentions_boxed (mentions_one ({}))",
+    ("BoxSlice", 0): "mentions_boxed (mentions_run ({}))",
+    ("Option", 0): "mentions_choice (mentions_other (mentions_variant (mentions_first ({}))))",
+    ("OwnedArray", 0): "mentions_array ({})",
+    ("Result", 0): "mentions_choice (mentions_variant (mentions_first ({})))",
+    ("Result", 1): "mentions_choice (mentions_other (mentions_variant (mentions_first ({}))))",
+    ("Shared", 0): "mentions_shared (mentions_one ({}))",
+    ("SharedSlice", 0): "mentions_shared (mentions_run ({}))",
+    ("Vec", 0): "mentions_vec ({})",
+    ("WeakShared", 0): "mentions_weak (mentions_one ({}))",
+    ("array", 0): "mentions_array ({})",
+}
+
+
 def tell(it: Declaration):
     """Tells whether a declaration is written so. A struct that isn't is archived as a tuple."""
     if it.holds_recursive and not it.parameters and not it.instance_of and not it.holder and all(fits(it, fields) for fields in groups(it)):
@@ -222,6 +239,8 @@ def reached(it, type):
     if is_described(type):
         return t.plain.described("no_others", type)
     X = t.shape(type)
+    if t.is_row(type):
+        return f"{it.word(type)}_no_others"
     if not leads_to_described(type):
         return f"(no_definition_reached {X})"
     D, Y, laws = [t.definitions(arg) for arg in type.args], [t.shape(arg) for arg in type.args], [reached(it, arg) for arg in type.args]
@@ -234,6 +253,8 @@ def reached(it, type):
     if type.name in ARRAYS:
         return f"(array_reaches {type.length} {D[0]} {Y[0]} {layout(it, type.args[0])} {laws[0]})"
     its = f"{D[0]} {Y[0]} {laws[0]}"
+    if type.name in ("Shared", "SharedSlice", "WeakShared"):
+        return f"(around_reached {D[0]} {Y[0]} {X} (λ n m. {AROUND[type.name, 0].format('m').replace('(m)', 'm')}) {laws[0]})"
     return {"Box": f"(one_reaches {its} (one {Y[0]}) refl)", "Vec": f"(vec_reaches {its})", "BoxSlice": f"(run_reaches {its})", "Option": f"(option_reached {its})"}[type.name]
 
 

@@ -1,6 +1,6 @@
 """Types that hold themselves behind boxes and vectors: what is known of such a declaration, and the files that are written for it."""
 
-from . import chains, code, proofs, specs, writers
+from . import chains, code, proofs, specs, variant_rests, writers
 from ..formats import Formats, layout_of, snake
 from ..model import Field, Type
 from .refusals import MOST_BY_NAME
@@ -17,6 +17,7 @@ class Case:
     def __init__(self, whole, name, n, tag, form, fields, docs):
         formats = whole.formats
         self.name, self.n, self.tag, self.form, self.fields, self.docs = name, n, tag, form, fields, docs
+        self.parts, self.defined = f"{n}_parts", f"{n}_definitions"
         self.types = [field.type for field in fields]
         self.count = len(fields)
         self.names = [f"a{i}" for i in range(self.count)]
@@ -108,6 +109,7 @@ class Recursive:
                 Case(self, variant.name, f"{self.n}_{snake(variant.name)}", tag, variant.form, variant.fields, variant.docs)
                 for tag, variant in enumerate(declaration.variants)
             ]
+            self.visibility, self.units = self.seen, variant_rests.Blocks(self)
         self.align = max(case.align for case in self.cases)
         self.size = -(-max(case.end for case in self.cases) // self.align) * self.align
         self.owners = self.owners_of()

@@ -4,7 +4,7 @@ from ..formats import ALIGNS
 from ..model import Type
 from .plain import product
 from .term_words import is_map, stem
-from . import specs
+from . import holders, specs
 
 
 def definitions_of(it):
@@ -74,7 +74,7 @@ def mention_of(type, own):
     for at, arg in enumerate(type.args):
         inner = mention_of(arg, own)
         if inner:
-            return specs.AROUND[type.name, at if type.name in ("BTreeMap", "Result") else 0].format(inner).replace("(m)", "m")
+            return holders.AROUND[type.name, at if type.name in ("BTreeMap", "Result") else 0].format(inner).replace("(m)", "m")
     return ""
 
 
@@ -163,7 +163,7 @@ def mention_in(it, type, other):
         return f"mentions_parts ({'mentions_later (' * its[0][0]}mentions_first ({its[0][1]}){')' * its[0][0]})" if its else ""
     at = 1 if is_map(type) else 0
     inner = mention_in(it, type.args[at], other)
-    return specs.AROUND[type.name, at].format(inner) if inner else ""
+    return holders.AROUND[type.name, at].format(inner) if inner else ""
 
 
 def knows(it, known):

@@ -3,7 +3,7 @@
 from dataclasses import replace
 from typing import List
 
-from ..formats import POINTERS, has_shared
+from ..formats import POINTERS, has_shared, snake
 from ..model import Declaration, Refused, Type
 from .plain import LEAVES, has_boxed, is_shaped
 
@@ -14,6 +14,8 @@ MOST_FIELDS = 9
 MOST_FLAT = 12
 # Up to so many fields there are calls by their number, for types that go by a name.
 MOST_BY_NAME = 7
+# How many variants are proved of an enum that is recursive or holds a recursive type.
+MOST_RECURSIVE_VARIANTS = 24
 MOST_PLACES = 3
 MOST_ITEMS = 8
 
@@ -31,6 +33,7 @@ def check_recursive(it: Declaration, line: int, names: str):
             check_part(it, field.type, field.line)
     check_rows(it)
     check_kept(it)
+    check_cycle(it, names)
 
 
 def with_rows_named(it: Declaration, type: Type) -> Type:
@@ -83,6 +86,14 @@ def check_family(it: Declaration, names: str):
         other = next((x for x in it.family if x is not it and any(variant.name == y.name for y in x.variants)), None)
         if other is not None:
             raise Refused(it.path, variant.line, f"`{variant.name}` is a variant of `{it.name}` and of `{other.name}`, which hold each other; give one of them another name")
+
+
+def check_cycle(it: Declaration, names: str):
+    """Of types that hold each other, the toolchain wants one `#[cycle(name)]` above each."""
+    cycles = {attribute for other in it.family for attribute in other.attributes if attribute.replace(" ", "").startswith("#[cycle(")}
+    if len(it.family) > 1 and (len(cycles) != 1 or not all(cycles & set(other.attributes) for other in it.family)):
+        others = " and ".join(f"`{other.name}`" for other in it.family)
+        raise Refused(it.path, it.line, f"{others} hold each other ({names}), and the toolchain wants a name for the circle; write `#[cycle({snake(it.name)})]` above each")
 
 
 def check_parts(it: Declaration, fields):
@@ -146,7 +157,7 @@ def check_owner(it: Declaration, type: Type, line: int):
         return
     written = (
         f"a `Box<{it.name}>`, a `Shared<{it.name}>`, an `Option` of one, a `Vec` or a `BoxSlice` of `{it.name}`, of `Box<{it.name}>`, `Option<Box<{it.name}>>` or `Shared<{it.name}>`,"
-        f" a `Vec` of tuples or, but in an enum of a family, of `Option<Shared<{it.name}>>`, a `Box` of a `Vec` of others, a `SharedSlice` or a `BTreeMap` of `{it.name}` is"
+        f" a `Vec` of tuples or of `Option<Shared<{it.name}>>`, a `Box` of a `Vec` of others, a `SharedSlice` or a `BTreeMap` of `{it.name}` is"
     )
     if type.name not in ("Box", "BoxSlice", "Option", "Shared", "Vec") or type.own is not None:
         raise Refused(it.path, line, f"`{type.name}` around `{it.name}` isn't written yet; {written}")
@@ -158,7 +169,7 @@ def refuse_nullable(it: Declaration, type: Type, line: int):
     if is_named(type, "Option") and is_named(type.args[0], "WeakShared"):
         raise Refused(it.path, line, f"an `Option` of a `WeakShared` around `{it.name}` isn't written; write the `WeakShared`, which may be a null itself")
     if any(is_named(part, "WeakShared") for part in (type, *type.args)):
-        raise Refused(it.path, line, f"this `WeakShared` around `{it.name}` isn't written; write a `WeakShared<{it.name}>`, in a struct or in an enum that is recursive alone, or a `Vec` of it in a struct")
+        raise Refused(it.path, line, f"this `WeakShared` around `{it.name}` isn't written; write a `WeakShared<{it.name}>` or a `Vec` of it")
 
 
 def check_array(it: Declaration, type: Type, line: int):
@@ -171,11 +182,9 @@ def check_array(it: Declaration, type: Type, line: int):
 
 
 def check_slice(it: Declaration, type: Type, line: int):
-    """A shared slice that leads back has elements of the type itself; beside it others lead back in a struct alone, by boxes and shared slices. Others aren't proved."""
-    others = [field.type for field in it.all_fields() if leads_back(it, field.type) and field.type is not type]
-    beside = it.kind == "struct" and all(is_pointer(it, other) or is_named(other, "SharedSlice") for other in others)
-    if len(it.family) > 1 or others and not beside or not is_member(it, type.args[0]):
-        said = f"a `SharedSlice` that leads back to `{it.name}` is written with elements of `{it.name}`, if no other field leads back but, in a struct, by a box or a `SharedSlice`, and no other type is recursive with it"
+    """A shared slice that leads back has elements of the type itself, or of another of its family. Others aren't proved."""
+    if not is_member(it, type.args[0]):
+        said = f"a `SharedSlice` that leads back to `{it.name}` is written with elements of `{it.name}`"
         raise Refused(it.path, line, f"{said}; write a `Shared` of a struct of this file with a `Vec`")
 
 
@@ -247,12 +256,11 @@ def is_map(it: Declaration, type: Type) -> bool:
 
 
 def is_nullable(it: Declaration, type: Type) -> bool:
-    """Whether it is a weak pointer or a vector of options of shared pointers, but in an enum of a family, or in a struct a vector of weak pointers."""
+    """Whether it is a weak pointer, or a vector of these or of options of shared pointers."""
     item = type.args[0] if is_named(type, "Vec") else type
-    is_proved = it.kind == "struct" or len(it.family) == 1
     if item is not type and is_named(item, "Option"):
-        return is_proved and is_shared(it, item)
-    return is_proved and is_named(item, "WeakShared") and is_member(it, item.args[0]) and (it.kind == "struct" or item is type)
+        return is_shared(it, item)
+    return is_named(item, "WeakShared") and is_member(it, item.args[0])
 
 
 def is_list(it: Declaration, type: Type) -> bool:

@@ -117,23 +117,6 @@ MORE = """{n}_more : {{old new : Table}} {{m : Name}} {{X : Shape}} → ((o : Na
 """
 
 
-# That what the argument of a type mentions is mentioned in the type.
-AROUND = {
-    ("BTreeMap", 1): "mentions_map ({})",
-    ("Box", 0): "mentions_boxed (mentions_one ({}))",
-    ("BoxSlice", 0): "mentions_boxed (mentions_run ({}))",
-    ("Option", 0): "mentions_choice (mentions_other (mentions_variant (mentions_first ({}))))",
-    ("OwnedArray", 0): "mentions_array ({})",
-    ("Result", 0): "mentions_choice (mentions_variant (mentions_first ({})))",
-    ("Result", 1): "mentions_choice (mentions_other (mentions_variant (mentions_first ({}))))",
-    ("Shared", 0): "mentions_shared (mentions_one ({}))",
-    ("SharedSlice", 0): "mentions_shared (mentions_run ({}))",
-    ("Vec", 0): "mentions_vec ({})",
-    ("WeakShared", 0): "mentions_weak (mentions_one ({}))",
-    ("array", 0): "mentions_array ({})",
-}
-
-
 def laid_out(it):
     """That what it stands for has its layout: by those of its parts, where a type of its family is one."""
     if not it.nest and not any(holders.has_described(type) for case in it.cases for type in case.types):

@@ -11,7 +11,7 @@ from .repository import RepositoryTest
 
 LIST = "pub enum List { Nil, Cons(u32, Box<List>) }\n"
 TREE = "#[derive(Drop)]\npub struct Tree { pub value: i64, pub children: Vec<Tree> }\n"
-FAMILY = "#[derive(Drop)]\npub struct Dir { name: String, entries: Vec<Entry> }\n#[derive(Drop)]\npub enum Entry { File(u64), Sub(Box<Dir>) }\n"
+FAMILY = "#[cycle(dir)]\n#[derive(Drop)]\npub struct Dir { name: String, entries: Vec<Entry> }\n#[cycle(dir)]\n#[derive(Drop)]\npub enum Entry { File(u64), Sub(Box<Dir>) }\n"
 
 
 class Recursive(RepositoryTest):
@@ -273,7 +273,7 @@ class Recursive(RepositoryTest):
         self.assertIn("c.as_slice-items", self.beside("proofs", "types", "+serialize_twig", "Answers.antt"))
 
     def test_a_weak_pointer_leads_to_another_type_of_the_family(self):
-        path = self.put("use archive_core::rc::{Shared, WeakShared};\n#[derive(Drop)]\npub struct Town { places: Vec<Shared<Spot>> }\n#[derive(Drop)]\npub struct Spot { on: WeakShared<Town>, next: Vec<Shared<Spot>> }\n")
+        path = self.put("use archive_core::rc::{Shared, WeakShared};\n#[cycle(town)]\n#[derive(Drop)]\npub struct Town { places: Vec<Shared<Spot>> }\n#[cycle(town)]\n#[derive(Drop)]\npub struct Spot { on: WeakShared<Town>, next: Vec<Shared<Spot>> }\n")
         self.assertEqual(self.run_command(path), (0, ""))
         text, meaning = self.text(path), self.beside("specs", "TownMeaning.antt")
         for word in ("struct WeakTownAt;", "fn read_weak_shared_town<D: Pooling<Shared<Spot>> + Pooling<Shared<Town>>>(", "fn serialize_each_shared_spot<", "fn begin_target<"):
@@ -386,7 +386,7 @@ class Recursive(RepositoryTest):
         self.assertEqual(self.run_command("--check", path), (0, ""))
 
     def test_a_type_of_the_family_may_be_in_another_behind_no_pointer(self):
-        path = self.put("#[derive(Drop)]\npub struct Member { name: String, value: Json }\n#[derive(Drop)]\npub enum Json { Null, Object(Vec<Member>) }\n")
+        path = self.put("#[cycle(json)]\n#[derive(Drop)]\npub struct Member { name: String, value: Json }\n#[cycle(json)]\n#[derive(Drop)]\npub enum Json { Null, Object(Vec<Member>) }\n")
         self.assertEqual(self.run_command(path), (0, ""))
         text, shape = self.text(path), self.beside("specs", "MemberShape.antt")
         self.assertIn("kept: (<String as Archive>::Resolver, (JsonResolver, ()))", text)
@@ -408,7 +408,7 @@ class Recursive(RepositoryTest):
         for word in ("both (defines stmt_name stmt_stands_for) definitions_of_expr", "stmt_reaches_expr : NoOthers", "knows_right s _ _ k"):
             self.assertIn(word, shape)
         block, stmt = "pub struct Block { pub last: Option<Expr>, pub all: Vec<Stmt> }", "pub enum Stmt { Do(Block), Say(Expr) }"
-        path = self.put(f"{exprs}#[derive(Drop)]\n{block}\n#[derive(Drop)]\n{stmt}\n")
+        path = self.put(f"{exprs}#[cycle(block)]\n#[derive(Drop)]\n{block}\n#[cycle(block)]\n#[derive(Drop)]\n{stmt}\n")
         self.assertEqual(self.run_command(path), (0, ""))
         self.assertIn("both (defines block_name block_stands_for) (both (defines stmt_name stmt_stands_for) definitions_of_expr)", self.beside("specs", "BlockShape.antt"))
 

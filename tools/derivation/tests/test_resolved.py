@@ -10,8 +10,10 @@ MIX = """use archive_core::rc::Shared;
 pub enum Mix { Leaf(u8), All(Vec<Shared<Mix>>), Both(u8, Vec<Shared<Mix>>), One(Shared<Mix>) }
 """
 TOWN = """use archive_core::rc::{Shared, WeakShared};
+#[cycle(town)]
 #[derive(Drop)]
 pub struct Town { way: WeakShared<Way> }
+#[cycle(town)]
 #[derive(Drop)]
 pub enum Way { Closed(u8), To(Shared<Town>) }
 """

@@ -1,0 +1,5 @@
+-- Written by tools/derive: change the declaration, and run it again.
+use Rattle.recursive_fields.proofs.note.note_days_expressions.Goals as goal
+
+pub returns : goal.returns
+returns c = c.first_expression.ensures _ _ c.expression_of.ensures c.no_expressions-rest1.ensures
