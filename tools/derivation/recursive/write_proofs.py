@@ -350,3 +350,4 @@ def empty_written(it, case, answers, function):
     nothing = f"(serialized_variant {whole_of(it, case)} _ _ _ _ _ (serialized_no_part no_definition _))"
     its = nothing if it.is_holder else f"(written_as {case.n}_has_keys {case.n}_means (rw {case.n}_opens refl) {nothing})"
     answers.answer(function, f"returns-in-{case.name}-clause-serialized", f"rw c.in-{case.name}.is {its}")
+    answers.answer(function, f"returns-in-{case.name}-clause-goes_on", "goes_nowhere _")

@@ -1,5 +1,5 @@
 -- Written by tools/derive: change the declaration, and run it again.
-use Rattle.archive_core.proofs.Causes.{err_by, goes_both}
+use Rattle.archive_core.proofs.Causes.{err_by, goes_both, goes_nowhere}
 use Rattle.archive_core.proofs.OwnChoices.{serialized_variant, variant_refused}
 use Rattle.archive_core.proofs.Owners.{vec_refused}
 use Rattle.archive_core.proofs.PlannedParts.{serialized_no_part, serialized_part, serialized_record, record_refused, first_refused, later_refused}
@@ -109,6 +109,9 @@ serialize_json_object-returns-clause-serialized g t c = (serialized_variant json
 
 pub serialize_whole_json-returns-in-Null-clause-serialized : goal.serialize_whole_json-returns-in-Null-clause-serialized
 serialize_whole_json-returns-in-Null-clause-serialized g t c = rw c.in-Null.is (written_as json_null_has_keys json_null_means (rw json_null_opens refl) (serialized_variant json_definitions json_shape json_name json_variant_definitions json_variants json_has_variants 0 json_null_parts refl json_null_definitions refl _ _ _ _ _ (serialized_no_part no_definition _)))
+
+pub serialize_whole_json-returns-in-Null-clause-goes_on : goal.serialize_whole_json-returns-in-Null-clause-goes_on
+serialize_whole_json-returns-in-Null-clause-goes_on g t c = goes_nowhere _
 
 pub serialize_whole_json-returns-in-Ok-clause-serialized : goal.serialize_whole_json-returns-in-Ok-clause-serialized
 serialize_whole_json-returns-in-Ok-clause-serialized g t c = rw c.in-Number.is (written_as (json_number_has_keys c.in-Number.a0) (json_number_means c.in-Number.a0) (rw (json_number_opens c.in-Number.a0) refl) c.in-Ok.ensures.serialized)
