@@ -218,6 +218,34 @@ def check_nests(module: Module):
                 raise Refused(module.path, field.type.line, f"{what} in {where} is too deep for the toolchain; write a struct without parameters in place of the inner one")
 
 
+# Pointers to a slice or a text, and what may be written in place of each.
+TO_SLICES = {"BoxSlice": "Vec<{}>", "BoxStr": "String", "SharedSlice": "Shared<Vec<{}>>", "SharedStr": "Shared<String>"}
+
+
+def to_slice_in(type: Type, is_held: bool) -> Optional[Type]:
+    """The first pointer to a slice or a text in a type, but where it stands alone or behind other pointers to one value. `is_held` says whether another type holds
+    this one: a view of that one asks that it be `Portable`."""
+    if is_held and type.own is None and type.name in TO_SLICES:
+        return type
+    types = type.args
+    if type.own is not None:
+        by = {p.name: x for p, x in zip(type.own.parameters, type.args)}
+        types = [substituted(field.type, by) for field in type.own.fields] if type.own.as_tuple else []
+    is_held = is_held or type.own is not None or type.name not in ("Box", "Shared", "WeakShared")
+    return next((found for x in types if type.name != "PhantomData" and (found := to_slice_in(x, is_held))), None)
+
+
+def check_slices(module: Module):
+    """Refuses a pointer to a slice or a text in another type. What is `Portable` may be pointed to by one impl, and slices and texts by another: of a view whose type has
+    both to choose from, "the borrow checker does not cover this function yet"."""
+    for it in module.declarations:
+        for field in it.all_fields():
+            found = to_slice_in(field.type, it.as_tuple)
+            if found:
+                other = TO_SLICES[found.name].format(*(x.text for x in found.args))
+                raise Refused(module.path, field.type.line, f"`{found.text}` in another type isn't covered by the toolchain's borrow checker; write `{other}`, or put it into a struct")
+
+
 # So many fields of a struct or of a variant have an array behind a pointer: of five the search didn't prove `resolve`.
 MOST_WITH_ARRAYS = 3
 

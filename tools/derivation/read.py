@@ -369,6 +369,7 @@ def module(reader: Reader, source: Source) -> Module:
     checks.check_nests(out)
     checks.check_loads(out)
     checks.check_arrays(out)
+    checks.check_slices(out)
     checks.check_marks(out)
     checks.check_seen(out)
     checks.check_wide(out)

@@ -331,7 +331,7 @@ class Recursive(RepositoryTest):
         self.assertIn("c.serialize_page-in-loop-value.ensures.goes_on", answers)
 
     def test_types_of_boxed_texts_and_slices_are_left_to_the_check(self):
-        path = self.put("use archive_core::boxed::{BoxSlice, BoxStr};\n#[derive(Drop)]\npub enum Sheet { Text(BoxStr), Bytes(Option<BoxSlice<u8>>, u8), Group(Vec<Sheet>) }\n")
+        path = self.put("use archive_core::boxed::{BoxSlice, BoxStr};\n#[derive(Drop)]\npub enum Sheet { Text(BoxStr), Bytes(BoxSlice<u8>, u8), Group(Vec<Sheet>) }\n")
         self.assertEqual(self.run_command(path), (0, ""))
         meaning = self.beside("specs", "SheetMeaning.antt")
         self.assertIn("sheet_text_means : (a0 : _) → ", meaning)

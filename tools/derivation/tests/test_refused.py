@@ -173,6 +173,28 @@ class Refusals(RepositoryTest):
         self.assertIn("this is in no crate", self.refusal("", "/tmp/types.rt"))
 
 
+class Slices(RepositoryTest):
+    USES = "use archive_core::boxed::{BoxSlice, BoxStr};\nuse archive_core::rc::{Shared, SharedSlice, SharedStr};\nuse std::collections::BTreeMap;\n"
+
+    def test_in_other_types(self):
+        for type, found, other in (
+            ("Option<BoxStr>", "BoxStr", "String"),
+            ("Vec<BoxSlice<u8>>", "BoxSlice<u8>", "Vec<u8>"),
+            ("(u8, SharedStr)", "SharedStr", "Shared<String>"),
+            ("Box<Result<u8, SharedSlice<u16>>>", "SharedSlice<u16>", "Shared<Vec<u16>>"),
+            ("BoxSlice<BoxStr>", "BoxStr", "String"),
+            ("BTreeMap<u8, BoxStr>", "BoxStr", "String"),
+        ):
+            with self.subTest(type):
+                said = f"4: `{found}` in another type isn't covered by the toolchain's borrow checker; write `{other}`, or put it into a struct"
+                self.assertEqual(self.refusal(f"{self.USES}#[derive(Drop)]pub struct A {{ pub x: {type} }}"), said)
+
+    def test_alone_in_a_box_and_in_a_struct(self):
+        for type in ("Box<BoxStr>", "Shared<BoxStr>", "BoxSlice<u8>", "Box<SharedStr>", "Option<B>"):
+            with self.subTest(type):
+                self.assertEqual(self.run_command(self.put(f"{self.USES}#[derive(Drop)]\npub struct B {{ pub x: BoxStr }}\n#[derive(Drop)]\npub struct A {{ pub x: {type} }}\n")), (0, ""))
+
+
 class Circles(RepositoryTest):
     def test_behind_no_pointer(self):
         for text, names in [

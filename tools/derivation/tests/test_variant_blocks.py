@@ -34,7 +34,7 @@ class VariantBlocks(RepositoryTest):
 
     def test_as_many_of_what_is_shared_or_long_or_has_parameters(self):
         fields = [f"V{i}(u8)" for i in range(MOST_WITH_FIELDS - 1)]
-        shared = "use archive_core::rc::SharedStr;\n#[derive(Drop)]\npub struct B { x: Vec<SharedStr> }\n"
+        shared = "use archive_core::rc::SharedStr;\n#[derive(Drop)]\npub struct B { x: SharedStr }\n"
         for head, name, last, alias in (
             (shared, "A", "W(B)", ""),
             ("", "A", f"W({', '.join(['u8'] * 9)})", ""),

@@ -67,7 +67,7 @@ class VariantFunctions(RepositoryTest):
         """Enums of so many variants with fields that aren't plain."""
         fields = [f"V{i}(u8)" for i in range(count - 1)]
         return (
-            f"use archive_core::rc::SharedStr;\n#[derive(Drop)]\npub struct B {{ x: Vec<SharedStr> }}\npub enum A {{ {', '.join(fields + ['W(B)'])} }}",
+            f"use archive_core::rc::SharedStr;\n#[derive(Drop)]\npub struct B {{ x: SharedStr }}\npub enum A {{ {', '.join(fields + ['W(B)'])} }}",
             f"pub enum A {{ {', '.join(fields + ['W(' + ', '.join(['u8'] * 9) + ')'])} }}",
             f"pub enum E<T> {{ {', '.join(fields + ['W(T)'])} }}\npub type A = E<u8>;",
         )
