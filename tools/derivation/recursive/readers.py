@@ -12,7 +12,7 @@ from ..model import Refused
 from . import code, resolvers
 
 # Of a graph with an enum, up to so many functions that read its values are proved, which call each other.
-MOST_OF_GRAPH = 40
+MOST_OF_GRAPH = 12
 
 
 def reading(it):

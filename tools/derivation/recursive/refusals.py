@@ -32,6 +32,7 @@ def check_recursive(it: Declaration, line: int, names: str):
         for field in fields:
             check_part(it, field.type, field.line)
     check_rows(it)
+    check_beside_rows(it)
     check_kept(it)
     check_cycle(it, names)
 
@@ -50,6 +51,25 @@ def check_rows(it: Declaration):
         if len(it.family) > 1 or not is_named(field.type, "Vec") or it.kind == "enum" and i > 0:
             said = f"a tuple that leads back to `{it.name}` is written in a `Vec` of a struct, or in one of an enum, if no other type is recursive with it"
             raise Refused(it.path, field.line, f"{said}; write a struct of this file")
+
+
+def check_beside_rows(it: Declaration):
+    """What a tuple that leads back means, or an entry of a map, is told at the head of the file. What other types of the file mean is told there, too: each would bring in
+    the other."""
+    if not any(rows_in(other, field.type) or is_map(other, field.type) for other in it.family for field in other.all_fields()):
+        return
+    for field in it.all_fields():
+        own = of_this_file(it, field.type)
+        if own:
+            said = f"`{own}` and the recursive `{it.name}`, in which a tuple or a map leads back, aren't written in one file"
+            raise Refused(it.path, field.line, f"{said}; move `{own}` to another one")
+
+
+def of_this_file(it: Declaration, type: Type) -> str:
+    """The name of a type of this file, but of the family, in a type; nothing if there is none."""
+    if type.own is not None and not is_member(it, type) and type.own.path == it.path:
+        return type.own.name
+    return next((found for arg in type.args if (found := of_this_file(it, arg))), "")
 
 
 def check_kept(it: Declaration):
