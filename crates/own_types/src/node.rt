@@ -52,7 +52,7 @@ ghost use Rattle.archive_core.specs.Writing.{Resolves, ZeroedPlace};
 ghost use Rattle.own_types.specs.NodeMeaning.{node_around, node_keys_around};
 ghost use Rattle.own_types.specs.NodeShape.{node_chain_known, node_checked, node_cons_parts, node_definitions, node_has_layout, node_has_variants, node_is_align, node_layout, node_name, node_no_others, node_shape, node_variant_definitions, node_variants};
 ghost use Rattle.std.proofs.Common.{lit≤};
-ghost use Rattle.std.specs.Prelude.{IfErr, IfOk, None, OnOk, Some, length, refl, ℕ, ◌+◌, ◌≡◌, ◌≤◌};
+ghost use Rattle.std.specs.Prelude.{IfErr, IfOk, None, OnOk, Some, false, length, refl, ℕ, ◌+◌, ◌≡◌, ◌≤◌};
 
 use archive_core::boxed::{ArchivedBox, BoxResolver};
 use archive_core::fields::{resolve_0, resolve_1};
@@ -64,20 +64,19 @@ use archive_core::recursive::{
     tag_of_choice, tag_of_view, view_of_payload,
 };
 use archive_core::seal::Seal;
+use archive_core::self_check::SelfCheck;
 use archive_core::ser::{ResolverAlloc, Writer, serialize_one};
 use archive_core::shape::Defs;
 use archive_core::traits::{
     Archive, ArchivePointee, ArchiveUnsized, Choice, CopyOptimization, Deserialize, Entries, Keys,
     Portable, Serialize, SerializeUnsized,
 };
+use archive_core::validation::ArchiveContext;
 use archive_core::view::{RawView, Ref};
 use std::alloc::AllocError;
-use std::marker::PhantomData;
 
 /// An archived `Node`: 8 bytes at a multiple of 4. It validates itself.
-pub struct ArchivedNode {
-    by: PhantomData<ChainCheck<NodeChain>>,
-}
+pub struct ArchivedNode;
 
 type NodeConsParts = (ArchivedBox<ArchivedNode>, ());
 
@@ -122,7 +121,7 @@ impl Portable for ArchivedNode {
 
     ghost layout = { node_layout };
 
-    type Check = ChainCheck<NodeChain>;
+    type Check = Self;
 
     ghost is_one = { refl };
 
@@ -304,6 +303,36 @@ impl Chain for NodeChain {
 
     fn align() -> usize {
         4
+    }
+}
+
+impl SelfCheck for ArchivedNode {
+    ghost shape = { node_shape };
+
+    ghost definitions = { node_definitions };
+
+    ghost span = { 8 };
+
+    ghost direct = { ⟦<ChainCheck<NodeChain> as SelfCheck>⟧.direct };
+
+    ghost nameless = { false };
+
+    fn is_direct() -> bool {
+        <ChainCheck<NodeChain> as SelfCheck>::is_direct()
+    }
+
+    fn is_nameless() -> bool {
+        false
+    }
+
+    #[inline(always)]
+    fn check_at<C: ArchiveContext>(
+        bytes: &[u8],
+        at: usize,
+        refusal: &mut Error,
+        context: &mut C,
+    ) -> Option<()> {
+        <ChainCheck<NodeChain> as SelfCheck>::check_at(bytes, at, refusal, context)
     }
 }
 

@@ -30,7 +30,7 @@ ghost use Rattle.archive_core.specs.Written.{GoesOn};
 ghost use Rattle.recursive_types.specs.ListMeaning.{list_around, list_keys_around};
 ghost use Rattle.recursive_types.specs.ListShape.{list_chain_known, list_checked, list_cons_parts, list_definitions, list_has_layout, list_has_variants, list_is_align, list_layout, list_name, list_no_others, list_shape, list_variant_definitions, list_variants};
 ghost use Rattle.std.proofs.Common.{lit≤};
-ghost use Rattle.std.specs.Prelude.{IfErr, IfOk, None, OnOk, Some, [], length, refl, ℕ, ◌++◌, ◌+◌, ◌≡◌, ◌≤◌};
+ghost use Rattle.std.specs.Prelude.{IfErr, IfOk, None, OnOk, Some, [], false, length, refl, ℕ, ◌++◌, ◌+◌, ◌≡◌, ◌≤◌};
 
 use archive_core::boxed::{ArchivedBox, BoxResolver};
 use archive_core::error::Error;
@@ -44,20 +44,19 @@ use archive_core::recursive::{
     seal_of_payload, serialize_chain, serialize_part, tag_of_choice, tag_of_view, view_of_payload,
 };
 use archive_core::seal::Seal;
+use archive_core::self_check::SelfCheck;
 use archive_core::ser::{ResolverAlloc, Writer, serialize_one};
 use archive_core::shape::Defs;
 use archive_core::traits::{
     Archive, ArchivePointee, ArchiveUnsized, Choice, CopyOptimization, Deserialize, Entries, Keys,
     Portable, Serialize, SerializeUnsized,
 };
+use archive_core::validation::ArchiveContext;
 use archive_core::view::{RawView, Ref};
 use std::alloc::{AllocError, Global};
-use std::marker::PhantomData;
 
 /// An archived `List`: 12 bytes at a multiple of 4. It validates itself.
-pub struct ArchivedList {
-    by: PhantomData<ChainCheck<ListChain>>,
-}
+pub struct ArchivedList;
 
 type ListConsParts = (ArchivedU32, (ArchivedBox<ArchivedList>, ()));
 
@@ -103,7 +102,7 @@ impl Portable for ArchivedList {
 
     ghost layout = { list_layout };
 
-    type Check = ChainCheck<ListChain>;
+    type Check = Self;
 
     ghost is_one = { refl };
 
@@ -291,6 +290,36 @@ impl Chain for ListChain {
 
     fn align() -> usize {
         4
+    }
+}
+
+impl SelfCheck for ArchivedList {
+    ghost shape = { list_shape };
+
+    ghost definitions = { list_definitions };
+
+    ghost span = { 12 };
+
+    ghost direct = { ⟦<ChainCheck<ListChain> as SelfCheck>⟧.direct };
+
+    ghost nameless = { false };
+
+    fn is_direct() -> bool {
+        <ChainCheck<ListChain> as SelfCheck>::is_direct()
+    }
+
+    fn is_nameless() -> bool {
+        false
+    }
+
+    #[inline(always)]
+    fn check_at<C: ArchiveContext>(
+        bytes: &[u8],
+        at: usize,
+        refusal: &mut Error,
+        context: &mut C,
+    ) -> Option<()> {
+        <ChainCheck<ListChain> as SelfCheck>::check_at(bytes, at, refusal, context)
     }
 }
 

@@ -44,7 +44,6 @@ def bring(it):
     f = it.formats
     f.use("archive_core::boxed", "ArchivedBox", "BoxResolver")
     f.use("archive_core::recursive", "Chain", "ChainBack", "ChainCheck", "ChainSource", "ReadHead", "Rest", "WrittenHead", "read_chain", "serialize_chain")
-    f.use("std::marker", "PhantomData")
     f.ghost("Chains", "HeadIsRead", "IsWrittenUpTo")
     meaning = f"{it.declaration.crate}.specs.{it.family.name}Meaning"
     f.ghosts.setdefault(meaning, set()).update([f"{it.n}_around", f"{it.n}_keys_around"])
@@ -88,6 +87,44 @@ impl Chain for {it.name}Chain {{
 
     fn align() -> usize {{
         {it.align}
+    }}
+}}
+"""
+
+
+def own_check(it):
+    """The check of the archived type: by a name of its own, so that whoever is passed the impl of the type is passed nothing of how it is checked."""
+    f, by = it.formats, f"ChainCheck<{it.name}Chain>"
+    f.use("archive_core::self_check", "SelfCheck")
+    f.use("archive_core::validation", "ArchiveContext")
+    f.ghost("std.specs.Prelude", "false")
+    return f"""impl SelfCheck for {it.archived} {{
+    ghost shape = {{ {it.n}_shape }};
+
+    ghost definitions = {{ {it.n}_definitions }};
+
+    ghost span = {{ {it.size} }};
+
+    ghost direct = {{ ⟦<{by} as SelfCheck>⟧.direct }};
+
+    ghost nameless = {{ false }};
+
+    fn is_direct() -> bool {{
+        <{by} as SelfCheck>::is_direct()
+    }}
+
+    fn is_nameless() -> bool {{
+        false
+    }}
+
+    #[inline(always)]
+    fn check_at<C: ArchiveContext>(
+        bytes: &[u8],
+        at: usize,
+        refusal: &mut Error,
+        context: &mut C,
+    ) -> Option<()> {{
+        <{by} as SelfCheck>::check_at(bytes, at, refusal, context)
     }}
 }}
 """

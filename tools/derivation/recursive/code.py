@@ -58,7 +58,7 @@ def text(it):
         chains.refuse_derived_drop(it.declaration)
         chains.refuse_long(it)
         chains.bring(it)
-        pieces += [chains.check(it), chains.drop(it), chains.writing(it), writers.region(it), chains.reading(it), readers.deserialize(it)]
+        pieces += [chains.check(it), chains.own_check(it), chains.drop(it), chains.writing(it), writers.region(it), chains.reading(it), readers.deserialize(it)]
     else:
         pieces += [writers.writing(it), writers.serialize(it), writers.region(it), places.text(it), readers.reading(it), readers.deserialize(it)]
     pieces += [accessors(it, records.views, variant_views.views), accessors(it, records.seals, variant_views.seals)]
@@ -126,10 +126,8 @@ def types(it):
             lines.append(statement(0, f"type {word(it, case)}Parts = ", nest([inside(it, type) for type in case.types], case.is_long), ";"))
     if not it.is_record:
         lines.append(statement(0, f"type {it.name}Variants = ", it.units.nest(), ";"))
-    # The check of a list is named for who matches on views of it, as the library's are by all views.
-    body = f" {{\n    by: PhantomData<ChainCheck<{it.name}Chain>>,\n}}" if it.is_chain else ";"
     return f"""/// An archived `{it.name}`: {it.size} bytes at a multiple of {it.align}. It {'validates itself' if it.is_chain else 'is validated by its schema'}.
-pub struct {it.archived}{body}
+pub struct {it.archived};
 
 {chr(10).join(lines)}"""
 
@@ -287,7 +285,7 @@ def portable(it):
         define = f"\n        {expressions.defining(it)}\n"
     else:
         define = f"\n        define_{it.family.n}_family(alloc, defs)\n"
-    check, checks = (f"ChainCheck<{it.name}Chain>", f"λ _. {n}_checked") if it.is_chain else ("BySchema", "λ direct. by_schema direct")
+    check, checks = ("Self", f"λ _. {n}_checked") if it.is_chain else ("BySchema", "λ direct. by_schema direct")
     return f"""impl Portable for {it.archived} {{
     ghost shape = {{ {n}_shape }};
 

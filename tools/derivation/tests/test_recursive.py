@@ -38,7 +38,7 @@ class Recursive(RepositoryTest):
         path = self.put(LIST)
         self.assertEqual(self.run_command(path), (0, ""))
         text = self.text(path)
-        for word in ("type Check = ChainCheck<ListChain>;", "serialize_chain(self, serializer)", "read_chain::<ArchivedList, List, D>", "impl Drop for List {"):
+        for word in ("type Check = Self;", "impl SelfCheck for ArchivedList {", "serialize_chain(self, serializer)", "read_chain::<ArchivedList, List, D>", "impl Drop for List {"):
             self.assertIn(word, text)
         self.assertNotIn("#[cycle", text)
 
