@@ -235,9 +235,12 @@ class Loads:
         return found
 
     def written(self, types, fours):
-        """What a call passes that checks or writes these fields: many go by their nest, others by their number."""
+        """What a call passes that checks or writes these fields: many go by their nest, others by their number. Of a nest it is more than is counted: of 13 fields
+        that come to 22,398 it was taken, and of 13 that come to 23,540 rejected."""
         parts = self.parts(types, fours)
-        return parts + self.serialized(types, True) if is_long(types) else max(parts, self.all(self.serialize, types))
+        if is_long(types):
+            return (parts + self.serialized(types, True)) * 6 // 5
+        return max(parts, self.all(self.serialize, types))
 
     def at_once(self, types, fours):
         """The most that a call over these fields passes, of a struct or of a variant, where they are read at once."""
