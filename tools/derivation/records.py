@@ -25,6 +25,7 @@ from .loads import Loads
 from .long import as_parts, fields_of, is_long, nest, pattern
 from .made import WRITTEN, Made, are_made
 from .pieces import Pieces
+from .recursive.refusals import keeps_memory
 
 
 # Up to so many fields a value is made where it is read.
@@ -253,7 +254,7 @@ def proofs(formats, declaration):
     out = bulk.proofs(record) if record.in_bulk else {}
     module = "/".join(declaration.module)
     dotted = ".".join((declaration.crate, "proofs") + tuple(declaration.module))
-    if record.by_nest and not record.in_bulk:
+    if not record.in_bulk and (record.by_nest or sum(type.own is not None and keeps_memory(type) for type in record.types) > 1):
         out[f"proofs/{module}/{record.name}Archive/resolve/Answers.antt"] = resolve_answers(record, dotted)
     if not is_made_apart(record):
         return out
@@ -278,14 +279,16 @@ returns-in-Ok g c = record {{
 
 
 def resolve_answers(record, dotted):
-    """The proof that the record is resolved as its nest of fields is: what the call says is named, since the search doesn't find it among many fields."""
+    """The proof that the record is resolved as its fields are: what the call says is named, since the search doesn't find it among many fields, nor where several
+    keep memory."""
+    call = "resolve_record" if record.by_nest else f"resolve_record_{record.count}"
     return f"""-- {WRITTEN}
 use Rattle.std.proofs.Common.{{rules}}
 use Rattle.{dotted}.{record.name}Archive.resolve.Goals as goal
 
 pub returns : goal.returns
 returns g =
-    let there = rw (g.new.ensures.position) at g.resolve_record.ensures in
+    let there = rw (g.new.ensures.position) at g.{call}.ensures in
     record {{ resolved = search (rules, there.resolved); refused = there.refused; same_length = search rules }}
 """
 

@@ -1,4 +1,4 @@
-"""Answers on how an enum of a recursive type is resolved: an arm for each variant."""
+"""Answers on how a value is resolved: of a recursive enum an arm for each variant, of a struct what its call says."""
 
 import os
 
@@ -28,6 +28,16 @@ class ResolveProofs(RepositoryTest):
         text = self.answers("#[derive(Drop)]\npub struct A { x: u8, y: Vec<A>, z: Vec<A> }", "A")
         self.assertIn("let same2 : g.of-h2.result.len ≡ length (out-A g.args.self.now).z.items = grind (arith, g.of-h2.ensures, g.len-2.ensures) in", text)
         self.assertIn("let there = rw (same1, same2, g.new.ensures.position) at g.resolve_named_record_3.ensures in record { resolved = search (rules, there.resolved);", text)
+
+    def test_a_long_struct_has_one_call(self):
+        fields = ", ".join(f"a{i}: String" for i in range(9))
+        self.assertIn("at g.resolve_record.ensures in", self.answers(f"#[derive(Drop)]\npub struct A {{ {fields} }}", "A"))
+        self.assertIsNone(self.answers("#[derive(Drop)]\npub struct A { x: u8, y: String }", "A"))
+
+    def test_a_struct_with_several_that_keep_memory_has_one_call(self):
+        part = "#[derive(Drop)]\npub struct P { x: [u8; 3], y: String }\n"
+        self.assertIn("at g.resolve_record_3.ensures in", self.answers(f"{part}#[derive(Drop)]\npub struct A {{ x: P, y: P, z: u8 }}", "A"))
+        self.assertIsNone(self.answers(f"{part}#[derive(Drop)]\npub struct A {{ x: P, z: u8 }}", "A"))
 
     def test_a_struct_with_a_map_is_left_to_the_search(self):
         self.assertIsNone(self.answers("use std::collections::BTreeMap;\n#[derive(Drop)]\npub struct A { x: u8, y: BTreeMap<String, A> }", "A"))
